@@ -1,0 +1,52 @@
+-- Document 01, "Shape of a file": the true size of a chunk, as the scan knows it.
+use Prim.Native.Nat.{ℕ, zero, suc, _+_}
+use mathlib.Core.Bool.{Bool, not, _&&_}
+use mathlib.Core.List.{List, [], _∷_}
+use lib.ListN.{drop}
+use lib.Dec.{eqb}
+use Rattle.le.specs.Number.{number}
+use Rattle.le.specs.Choice.{pick}
+use Rattle.chunk.specs.declared.Refusal.the-variants.{BadDs64, NoSize}
+use Rattle.chunk.specs.Refusals.{Answer, refused, given, check}
+use Rattle.chunk.specs.Names.{DS64, DATA, ONES}
+use Rattle.chunk.specs.Walks.{Rule}
+use Rattle.form.specs.declared.Form.{Form}
+use Rattle.form.specs.declared.Form.the-variants.{Riff, Rf64, Bw64}
+use Rattle.form.specs.declared.Ds64.{Ds64}
+use Rattle.form.specs.declared.Head.{Head}
+use Rattle.form.specs.Forms.{isWide}
+
+-- an entry of ds64: a name and a 64-bit size
+pub record Known : Type 0 where
+  pub name : ℕ
+  pub size : ℕ
+
+-- the n entries of 12 bytes that stand in these bytes
+unfoldable pub entriesIn : ℕ → List ℕ → List Known
+entriesIn zero s = []
+entriesIn (suc n) s = record { name = number 4 0 s; size = number 8 4 s } ∷ entriesIn n (drop 12 s)
+
+-- the entries of a file's ds64, which stand past its 36 bytes; none in RIFF
+unfoldable pub entriesOf : Head → List ℕ → List Known
+entriesOf h s = entriesIn (h .ds64 .count) (drop 48 s)
+
+-- "the first entry of that name", or 7
+unfoldable pub entrySize : ℕ → List Known → Answer ℕ
+unfolding pick
+entrySize name [] = refused NoSize
+entrySize name (k ∷ ks) = pick (eqb (k .name) name) (given (k .size)) (entrySize name ks)
+
+-- an all-ones field: 7 in RIFF; "on data, the ds64 data size; on another chunk, the first entry of that name"
+unfoldable pub onesSize : Form → Ds64 → List Known → ℕ → Answer ℕ
+unfolding pick
+onesSize Riff d ks name = refused NoSize
+onesSize Rf64 d ks name = pick (eqb name DATA) (given (d .audio)) (entrySize name ks)
+onesSize Bw64 d ks name = pick (eqb name DATA) (given (d .audio)) (entrySize name ks)
+
+-- The scan's size rule: "A ds64 anywhere else, or in RIFF, is refused"; "A size field that is not all ones is the true
+-- size"; else what the ds64 knows.
+unfoldable pub trueSize : Head → List Known → Rule
+unfolding check pick
+trueSize h ks at name own =
+    check (not (eqb name DS64 && not (isWide (h .form) && eqb at 12))) BadDs64
+    (pick (eqb own ONES) (onesSize (h .form) (h .ds64) ks name) (given own))

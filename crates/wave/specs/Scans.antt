@@ -1,0 +1,135 @@
+-- Document 01, "Refusal numbers" and "The 32-bit walk": the scan as a listing (checks 1 to 10) and a judgement (11 and
+-- 12), the sample count, and the 32-bit walk.
+use Prim.Native.Nat.{ℕ, _%_}
+use mathlib.Core.Bool.{Bool, true, _||_}
+use mathlib.Core.List.{List, [], _∷_}
+use lib.Dec.{eqb, leb, ltb}
+use Rattle.le.specs.Number.{number, field}
+use Rattle.le.specs.Choice.{pick, every}
+use Rattle.chunk.specs.declared.Entry.{Entry}
+use Rattle.chunk.specs.declared.Refusal.{Refusal}
+use Rattle.chunk.specs.declared.Refusal.the-variants.{Chunks, Ragged}
+use Rattle.chunk.specs.declared.Verdict.{Verdict}
+use Rattle.chunk.specs.declared.Verdict.the-variants.{Accepted, Refused}
+use Rattle.chunk.specs.Refusals.{Answer, refused, given, check, andThen}
+use Rattle.chunk.specs.Names.{FMT, DATA, FACT, BEXT, CHNA, ONES}
+use Rattle.chunk.specs.Tables.{count, find}
+use Rattle.chunk.specs.Walks.{Walked, walk, ownSize}
+use Rattle.form.specs.declared.Form.{Form}
+use Rattle.form.specs.declared.Form.the-variants.{Riff, Rf64, Bw64}
+use Rattle.form.specs.declared.Head.{Head}
+use Rattle.form.specs.Forms.{headOf, openFor32}
+use Rattle.form.specs.Sizes.{trueSize, entriesOf}
+use Rattle.fmt.specs.declared.Format.{Format}
+use Rattle.fmt.specs.Formats.{formatIn}
+use Rattle.wave.specs.declared.Samples.{Samples}
+use Rattle.wave.specs.declared.Samples.the-variants as samples
+
+-- ---- the listing: checks 1 to 10
+
+-- the rows of a walk that came to the end, or the refusal it stopped with
+unfoldable pub endedAs : Verdict → List Entry → Answer (List Entry)
+endedAs Accepted rows = given rows
+endedAs (Refused r) rows = refused r
+
+-- check 10: "exactly one fmt and one data, fmt first, and at most one each of bext, chna and fact; fact holds at least 4
+-- bytes"
+unfoldable pub chunksGood : List Entry → Bool
+unfolding every
+chunksGood rows =
+    every
+    (eqb (count FMT rows) 1
+    ∷ eqb (count DATA rows) 1
+    ∷ ltb (find FMT rows .place) (find DATA rows .place)
+    ∷ leb (count BEXT rows) 1
+    ∷ leb (count CHNA rows) 1
+    ∷ leb (count FACT rows) 1
+    ∷ (eqb (count FACT rows) 0 || leb 4 (find FACT rows .size))
+    ∷ [])
+
+-- a file's form and its table
+pub record Listing : Type 0 where
+  pub head : Head
+  pub rows : List Entry
+
+-- the walk of the headers by the true sizes
+unfoldable pub headers : Head → List ℕ → Walked
+headers h s = walk (trueSize h (entriesOf h s)) s 64 12
+
+unfoldable pub listing : List ℕ → Answer Listing
+unfolding andThen check
+listing s =
+    andThen (headOf s) λ h.
+    andThen (endedAs (headers h s .end) (headers h s .rows)) λ rows.
+    check (chunksGood rows) Chunks
+    (given (record { head = h; rows = rows }))
+
+-- ---- the judgement: checks 11 and 12
+
+-- "A chunk's payload is handed to its reader as the part of the file that starts at its place"
+unfoldable pub payload : Entry → List ℕ → List ℕ
+payload e s = field (e .size) (e .place) s
+
+-- check 12: "The data size is a whole number of blocks"
+unfoldable pub wholeBlocks : ℕ → Format → Answer Format
+unfolding check
+wholeBlocks size f = check (eqb (size % f .block) 0) Ragged (given f)
+
+-- over the fmt payload and the data size
+unfoldable pub judged : List ℕ → ℕ → Answer Format
+unfolding andThen
+judged p size = andThen (formatIn p) λ f. wholeBlocks size f
+
+-- ---- the scan
+
+-- an accepted file: its form, its table and its format
+pub record Scan : Type 0 where
+  pub head : Head
+  pub rows : List Entry
+  pub format : Format
+
+unfoldable pub scan : List ℕ → Answer Scan
+unfolding andThen
+scan s =
+    andThen (listing s) λ l.
+    andThen (judged (payload (find FMT (l .rows)) s) (find DATA (l .rows) .size)) λ f.
+    given (record { head = l .head; rows = l .rows; format = f })
+
+-- "A refused scan .. returns its number and an empty result": the rows of its table
+unfoldable pub rowsOf : Answer Scan → List Entry
+rowsOf (refused r) = []
+rowsOf (given a) = a .rows
+
+-- ---- the sample count
+
+-- "the first 32 bits of fact, save that in RF64 all ones there means the third ds64 number"
+unfoldable pub factCount : Form → ℕ → ℕ → ℕ
+unfolding pick
+factCount Riff third own = own
+factCount Rf64 third own = pick (eqb own ONES) third own
+factCount Bw64 third own = own
+
+-- "none without fact"
+unfoldable pub samplesIn : Scan → List ℕ → Samples
+unfolding pick
+samplesIn a s =
+    pick (eqb (count FACT (a .rows)) 0) samples.None
+    (samples.Count (factCount (a .head .form) (a .head .ds64 .third) (number 4 (find FACT (a .rows) .place) s)))
+
+-- "asked of a file with the scan's refusals"
+unfoldable pub samplesAs : Answer Scan → List ℕ → Samples
+samplesAs (refused r) s = samples.Refused r
+samplesAs (given a) s = samplesIn a s
+
+unfoldable pub samplesOf : List ℕ → Samples
+samplesOf s = samplesAs (scan s) s
+
+-- ---- the 32-bit walk
+
+-- the walk from where checks 1, 2 and 5 let it start, or their refusal with nothing shown
+unfoldable pub walkFrom : Answer ℕ → List ℕ → Walked
+walkFrom (refused r) s = record { rows = []; end = Refused r }
+walkFrom (given at) s = walk ownSize s 64 at
+
+unfoldable pub walk32 : List ℕ → Walked
+walk32 s = walkFrom (openFor32 s) s
