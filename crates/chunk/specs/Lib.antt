@@ -2,3 +2,4 @@ pub mod Names
 pub mod Refusals
 pub mod Tables
 pub mod Walks
+pub mod Writes

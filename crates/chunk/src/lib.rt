@@ -118,3 +118,10 @@ pub enum Step {
     // The end of the file, or a refusal.
     Stop(Verdict),
 }
+
+// What a writer answers.
+pub enum Written {
+    // How many bytes it wrote.
+    Bytes(u64),
+    Refused(Refusal),
+}
