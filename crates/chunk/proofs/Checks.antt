@@ -28,6 +28,12 @@ pub pick-false {ℓ} : {X : Type ℓ} (b : Bool) (x y : X) → b ≡ false → p
 unfolding pick
 pick-false b x y e = rw e
 
+-- what holds of either outcome, from what the test then says
+pub picked {ℓ} : {X : Type ℓ} (P : X → Type 0) (b : Bool) (x y : X) → (b ≡ true → P x) → (b ≡ false → P y) → P (pick b x y)
+unfolding pick
+picked P true x y f g = f refl
+picked P false x y f g = g refl
+
 pub true-false : (b : Bool) → b ≡ true → b ≡ false → ⊥
 true-false b p q = let z : _≡_ {A = ℕ} 0 1 = cc in omega arith
 
