@@ -15,14 +15,15 @@ use Rattle.le.specs.Number.{number}
 use Rattle.le.specs.Choice.{pick}
 use Rattle.chunk.specs.declared.Entry.{Entry}
 use Rattle.chunk.specs.declared.Refusal.{Refusal}
-use Rattle.chunk.specs.declared.Refusal.the-variants.{CutHeader, TooMany, PastEnd}
+use Rattle.chunk.specs.declared.Refusal.the-variants.{CutHeader, TooMany, NoSize, PastEnd}
 use Rattle.chunk.specs.declared.Verdict.{Verdict}
 use Rattle.chunk.specs.declared.Verdict.the-variants.{Accepted, Refused}
 use Rattle.chunk.specs.declared.Step.{Step}
 use Rattle.chunk.specs.declared.Step.the-variants.{Chunk, Stop}
 use Rattle.chunk.specs.Refusals.{Answer, refused, given}
 use Rattle.chunk.proofs.Checks.{picked, pick-true, pick-false}
-use Rattle.chunk.specs.Walks.{Rule, past, placed, sized, step, stepAt, Walked, follow, walk}
+use Rattle.chunk.specs.Names.{ONES}
+use Rattle.chunk.specs.Walks.{Rule, past, placed, sized, step, stepAt, Walked, follow, walk, ownSize}
 
 -- a chunk whose header stands at an offset
 pub record Row (rule : Rule) (s : List ℕ) (at : ℕ) (e : Entry) : Type 0 where
@@ -220,3 +221,13 @@ relaid {at = at} new u h shown (next {e = x} r l) =
     next
     (record { place = r .place; named = rw p at (w .named); sized = rw (p, q) at (w .sized); ends = rw h (r .ends) })
     (relaid new u h (λ e m. shown e (List·Memᴰ·tail m)) l)
+
+-- ---- the rule of the 32-bit walk
+
+pub own-ones : (at name own : ℕ) → own ≡ ONES → ownSize at name own ≡ refused NoSize
+unfolding ownSize
+own-ones at name own h = pick-true _ _ _ (eq-eqb own ONES h)
+
+pub own-given : (at name own : ℕ) → (own ≡ ONES → ⊥) → ownSize at name own ≡ given own
+unfolding ownSize
+own-given at name own h = pick-false _ _ _ (ne-eqb own ONES h)
