@@ -81,3 +81,7 @@ and-true false b e = absurd (true-false false e refl)
 pub or-true : (a b : Bool) → (a ≡ false → b ≡ true) → a || b ≡ true
 or-true true b h = refl
 or-true false b h = h refl
+
+pub or-false : (a b : Bool) → a || b ≡ true → a ≡ false → b ≡ true
+or-false true b e f = absurd (true-false true refl f)
+or-false false b e f = e
