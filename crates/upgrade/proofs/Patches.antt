@@ -16,6 +16,13 @@ pub data Clear (n at : ℕ) : List Patch → Type 0 where
   none : Clear n at []
   one : {p : Patch} {ps : List Patch} → (at + n ≤ p .place) ⊎ (p .place + 4 ≤ at) → Clear n at ps → Clear n at (p ∷ ps)
 
+-- a store at k past the bytes, or ahead of them
+pub past : {n at : ℕ} (k : ℕ) {v : ℕ} {ps : List Patch} → at + n ≤ k → Clear n at ps → Clear n at (record { place = k; value = v } ∷ ps)
+past k h c = one (inl h) c
+
+pub ahead : {n at : ℕ} (k : ℕ) {v : ℕ} {ps : List Patch} → k + 4 ≤ at → Clear n at ps → Clear n at (record { place = k; value = v } ∷ ps)
+ahead k h c = one (inr h) c
+
 pub clear-append : {n at : ℕ} {ps qs : List Patch} → Clear n at ps → Clear n at qs → Clear n at (ps ++ qs)
 clear-append none d = d
 clear-append (one h c) d = one h (clear-append c d)
@@ -40,20 +47,25 @@ pub number-clear : {n at : ℕ} {ps : List Patch} (s : List ℕ) → Clear n at 
 number-clear {n} {at} {ps} s c = number-frame n at (patched ps s) s (field-clear s c)
 
 -- what is stored is read back where no later store touches it
-pub number-patched : (at v : ℕ) (ps : List Patch) (s : List ℕ) → v < 256 ^ 4 → at + 4 ≤ length s → Clear 4 at ps
-    → number 4 at (patched (patch at v ∷ ps) s) ≡ v
+pub number-patched : (before : List Patch) (at v : ℕ) (later : List Patch) (s : List ℕ) → v < 256 ^ 4 → at + 4 ≤ length s
+    → Clear 4 at later → number 4 at (patched (before ++ patch at v ∷ later) s) ≡ v
 unfolding patched patch
-number-patched at v ps s h k c = number-clear (stored 4 at v s) c ∙ number-stored 4 at v s h k
+number-patched before at v later s h k c =
+    ap (number 4 at) (patched-append before (patch at v ∷ later) s)
+    ∙ number-clear (stored 4 at v (patched before s)) c
+    ∙ number-stored 4 at v (patched before s) h (omega (arith, patched-length before s))
 
 -- the two halves of a 64-bit number are its 8 bytes
 pub halves-stored : (at v : ℕ) (s : List ℕ) → patched (halves at v) s ≡ stored 8 at v s
 unfolding patched patch halves
 halves-stored at v s = sym (stored-split 4 4 at v s)
 
-pub number-halves : (at v : ℕ) (ps : List Patch) (s : List ℕ) → v < 256 ^ 8 → at + 8 ≤ length s → Clear 8 at ps
-    → number 8 at (patched (halves at v ++ ps) s) ≡ v
-number-halves at v ps s h k c =
-    ap (number 8 at) (patched-append (halves at v) ps s)
-    ∙ number-clear (patched (halves at v) s) c
-    ∙ ap (number 8 at) (halves-stored at v s)
-    ∙ number-stored 8 at v s h k
+pub number-halves : (before : List Patch) (at v : ℕ) (later : List Patch) (s : List ℕ) → v < 256 ^ 8 → at + 8 ≤ length s
+    → Clear 8 at later → number 8 at (patched (before ++ (halves at v ++ later)) s) ≡ v
+number-halves before at v later s h k c =
+    ap (number 8 at)
+    (patched-append before (halves at v ++ later) s
+    ∙ patched-append (halves at v) later (patched before s)
+    ∙ ap (patched later) (halves-stored at v (patched before s)))
+    ∙ number-clear (stored 8 at v (patched before s)) c
+    ∙ number-stored 8 at v (patched before s) h (omega (arith, patched-length before s))
