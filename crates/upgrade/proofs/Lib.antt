@@ -1,3 +1,4 @@
 pub mod Cases
 pub mod Patches
 pub mod Stores
+pub mod Takes
