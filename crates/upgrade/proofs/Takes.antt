@@ -19,7 +19,7 @@ use Rattle.chunk.specs.Names.{DS64, JUNK, FMT, FACT, DATA, WAVE, ONES}
 use Rattle.chunk.specs.Refusals.{given}
 use Rattle.chunk.specs.Tables.{count, find}
 use Rattle.chunk.specs.Walks.{Rule, past}
-use Rattle.chunk.proofs.Checks.{picked}
+use Rattle.chunk.proofs.Checks.{picked, pick-true}
 use Rattle.chunk.proofs.Laid.{Row, Laid, next, Lies, laid-lies, Apart, same, before, after, laid-apart}
 use Rattle.chunk.proofs.Finds.{First, hit, miss, first, Finds, found, only}
 use Rattle.form.specs.declared.Form.{Form}
@@ -148,6 +148,26 @@ module _ (s : List ℕ) (h : Head) (j : Entry) (rest : List Entry) (k : Take s h
         data-side (inl p) = inl p
         data-side (inr p) = inr (omega (arith, far _ (data-in .0)))
 
+    -- WAVE and JUNK's own size
+    pub low-beside : 8 ≤ at → at + n ≤ 20 → (at + n ≤ 12) ⊎ (16 ≤ at) → Beside n at (changed t (take h j rest f))
+    unfolding changed Beside span
+    low-beside p q r = (
+      inr (omega arith),
+      (
+        inr (omega arith),
+        (
+          r,
+          (
+            inl q,
+            (
+              inl (omega (arith, far _ (data-in .0))),
+              fact-beside (λ c. inl (omega (arith, far _ (fact-in c .0)))),
+            ),
+          ),
+        ),
+      ),
+    )
+
   -- for BW64 fact lies beside them
   pub fact-kept : (f : Format) → (count FACT (j ∷ rest) ≡ 0 → ⊥)
       → Beside 4 (find FACT (j ∷ rest) .place) (changed target.Bw64 (take h j rest f))
@@ -224,6 +244,16 @@ module _ (s : List ℕ) (h : Head) (j : Entry) (rest : List Entry) (k : Take s h
   pub has-fact : (f : Format) → hasFact (take h j rest f) ≡ true → count FACT (j ∷ rest) ≡ 0 → ⊥
   unfolding hasFact
   has-fact f e = eqb-false (count FACT (j ∷ rest)) 0 (not-true _ e)
+
+  pub fact-has : (f : Format) → (count FACT (j ∷ rest) ≡ 0 → ⊥) → hasFact (take h j rest f) ≡ true
+  unfolding hasFact
+  fact-has f n = ap not (ne-eqb (count FACT (j ∷ rest)) 0 n)
+
+  -- "The third number is then fact's old count"
+  pub third-fact : (f : Format) → hasFact (take h j rest f) ≡ true
+      → thirdFor target.Rf64 (take h j rest f) s ≡ number 4 (find FACT (j ∷ rest) .place) s
+  unfolding thirdFor
+  third-fact f e = pick-true (hasFact (take h j rest f)) _ _ e
 
   pub fits : (t : Target) (f : Format) → Fits t s (take h j rest f)
   unfolding past

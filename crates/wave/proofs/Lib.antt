@@ -1,3 +1,4 @@
 pub mod Scanned
 pub mod FirstHalf
 pub mod Tables
+pub mod Counts
