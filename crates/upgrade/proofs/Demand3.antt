@@ -40,7 +40,7 @@ use Rattle.wave.proofs.FirstHalf.{first-half}
 use Rattle.upgrade.specs.declared.Target.{Target}
 use Rattle.upgrade.specs.declared.Target.the-variants as target
 use Rattle.upgrade.specs.Upgrades.{hasFact, thirdFor, targetName, patches, patched, reserved, upgraded}
-use Rattle.upgrade.specs.Demand3.{Reserved, renamed, aheadOf, targetForm, span, changed, Beside, Holds, Upgraded, SecondHalf}
+use Rattle.upgrade.specs.Demand3.{Reserved, renamed, aheadOf, targetForm, span, changed, Beside, Holds, Upgraded, SecondHalf, Demand3}
 use Rattle.upgrade.proofs.Patches.{patched-length}
 use Rattle.upgrade.proofs.Stores.{field-beside, number-beside, byte-beside, holds}
 use Rattle.upgrade.proofs.Takes.{skipped, take, Take, junk-row, rest-laid, far, past-junk, data-in, fmt-in, fact-in, own-size, not-ds64, low-beside, fact-kept, name-beside, own-beside, payload-beside, form-whole, fact-has, third-fact, fits}
@@ -345,3 +345,69 @@ module _ (t : Target) (s : List ℕ) (h : Head) (j : Entry) (rest : List Entry) 
           samples = samples-same;
           walk = stops;
         }
+
+-- ---- success and refusal
+
+reserved-true : (rows : List Entry) → reserved rows ≡ true → Reserved rows
+unfolding reserved Reserved
+reserved-true [] e = true-false false e refl
+reserved-true (x ∷ xs) e =
+    let c = and-true (eqb (x .name) JUNK) (leb 28 (x .size)) e in
+    (eqb-true (x .name) JUNK (c .0), leb-true 28 (x .size) (c .1))
+
+true-reserved : (rows : List Entry) → Reserved rows → reserved rows ≡ true
+unfolding reserved Reserved
+true-reserved [] r = absurd r
+true-reserved (x ∷ xs) r = rw (eq-eqb (x .name) JUNK (r .0), le-leb 28 (x .size) (r .1))
+
+module _ (t : Target) (s : List ℕ) (a : Scan) (e : scan s ≡ given a) (riff : a .head .form ≡ Riff) where
+  narrow : not (isWide (a .head .form)) ≡ true
+  unfolding isWide
+  narrow = rw riff
+
+  judged-so : upgraded t s ≡ check (reserved (a .rows)) NoReserve (given (patched (patches t a s) s))
+  unfolding upgraded
+  judged-so = andThen-at (scan s) _ a e ∙ check-true (not (isWide (a .head .form))) _ _ narrow
+
+  success : reserved (a .rows) ≡ true → upgraded t s ≡ given (patched (patches t a s) s)
+  success r = judged-so ∙ check-true (reserved (a .rows)) _ _ r
+
+  refusal : reserved (a .rows) ≡ false → upgraded t s ≡ refused NoReserve
+  refusal r = judged-so ∙ check-false (reserved (a .rows)) _ _ r
+
+  -- a success has a reserve, and its bytes are the rule's
+  succeeded : (u : List ℕ) → upgraded t s ≡ given u → (reserved (a .rows) ≡ true) × (patched (patches t a s) s ≡ u)
+  succeeded u p =
+      let c = check-given (reserved (a .rows)) NoReserve (given (patched (patches t a s) s)) u (sym judged-so ∙ p) in
+      (c .0, given-inj _ _ (c .1))
+
+upgraded-so : (t : Target) (s : List ℕ) (h : Head) (rows : List Entry) (f : Format) → Bytes s
+    → scan s ≡ given (record { head = h; rows = rows; format = f }) → h .form ≡ Riff → Reserved rows
+    → Upgraded t s (record { head = h; rows = rows; format = f }) (patched (patches t (record { head = h; rows = rows; format = f }) s) s)
+unfolding Reserved
+upgraded-so t s h [] f bytes e riff r = absurd r
+upgraded-so t s h (j ∷ rest) f bytes e riff r =
+    let c = scan-scanned s (take h j rest f) e in
+    upgraded-take t s h j rest f (record { bytes = bytes; riff = riff; listed = c .listed; junk = r .0; holds = r .1 }) e (c .format)
+
+-- Demand 3, second half.
+pub second-half : (t : Target) (s : List ℕ) (a : Scan) → Bytes s → scan s ≡ given a → a .head .form ≡ Riff → SecondHalf t s a
+second-half t s a bytes e riff =
+    record {
+      succeeds = (
+        (λ p. reserved-true (a .rows) (succeeded t s a e riff (p .0) (p .1) .0)),
+        (λ r. (patched (patches t a s) s, success t s a e riff (true-reserved (a .rows) r))),
+      );
+      otherwise = λ n. refusal t s a e riff (not-reserved (reserved (a .rows)) refl n);
+      after = λ u p.
+          let c = succeeded t s a e riff u p in
+          subst (Upgraded t s a) (c .1) (upgraded-so t s (a .head) (a .rows) (a .format) bytes e riff (reserved-true (a .rows) (c .0)));
+    }
+  where
+    not-reserved : (b : Bool) → reserved (a .rows) ≡ b → (Reserved (a .rows) → ⊥) → reserved (a .rows) ≡ false
+    not-reserved true q n = absurd (n (reserved-true (a .rows) q))
+    not-reserved false q n = q
+
+-- Demand 3, whole.
+pub demand-3 : Demand3
+demand-3 = record { first = first-half; second = second-half }

@@ -1,5 +1,5 @@
--- The customer's demand 3, second half: the words of the statement, which proofs/Demand3.antt proves of every list of
--- bytes that the scan accepts as RIFF.
+-- The customer's demand 3: its second half, and both halves as one statement, which proofs/Demand3.antt proves. The first
+-- half stands in the wave crate.
 use Prim.Native.Nat.{ℕ, _+_, _-_, _≤_, _<_}
 use mathlib.Core.Path.{_≡_}
 use mathlib.Core.Logic.{_↔_, _⊎_}
@@ -7,7 +7,7 @@ use mathlib.Core.Bool.{Bool, true}
 use mathlib.Core.List.{List, [], _∷_}
 use lib.ListN.{length, getD}
 use lib.Dec.{eqb}
-use Rattle.le.specs.Number.{number}
+use Rattle.le.specs.Number.{Bytes, number}
 use Rattle.le.specs.Choice.{pick}
 use Rattle.chunk.specs.declared.Entry.{Entry}
 use Rattle.chunk.specs.declared.Refusal.the-variants.{NoSize, NoReserve}
@@ -19,6 +19,7 @@ use Rattle.chunk.specs.Walks.{Walked}
 use Rattle.form.specs.declared.Form as form
 use Rattle.form.specs.declared.Form.the-variants as form-variants
 use Rattle.wave.specs.Scans.{Scan, scan, payload, samplesOf, walk32}
+use Rattle.wave.specs.Demand3.{FirstHalf}
 use Rattle.upgrade.specs.declared.Target.{Target}
 use Rattle.upgrade.specs.declared.Target.the-variants.{Rf64, Bw64}
 use Rattle.upgrade.specs.Upgrades.{hasFact, thirdFor, targetName, patches, patched, upgraded}
@@ -118,3 +119,12 @@ pub record SecondHalf (t : Target) (s : List ℕ) (a : Scan) : Type 0 where
   pub otherwise : (Reserved (a .rows) → ⊥) → upgraded t s ≡ refused NoReserve
   -- "After a success .."
   pub after : (u : List ℕ) → upgraded t s ≡ given u → Upgraded t s a u
+
+-- ---- demand 3, whole
+
+pub record Demand3 : Type 0 where
+  -- "Take any file that the scan accepts .. and read it with the plain 32-bit walk"
+  pub first : (s : List ℕ) (a : Scan) → scan s ≡ given a → FirstHalf s a
+  -- "Now take any accepted RIFF file, and RF64 or BW64 as target."
+  pub second : (t : Target) (s : List ℕ) (a : Scan) → Bytes s → scan s ≡ given a → a .head .form ≡ form-variants.Riff
+      → SecondHalf t s a
