@@ -41,6 +41,22 @@ pub row-fits : {rule : Rule} {s : List ℕ} {at : ℕ} {e : Entry} → Row rule 
 unfolding past
 row-fits r = omega arith
 
+-- ---- where the next header is due
+
+-- "one pad byte if the payload is odd", and none if it is even
+pub past-odd : (e : Entry) → e .size % 2 ≡ 1 → past e ≡ e .place + e .size + 1
+unfolding past
+past-odd e h = ap (λ (n : ℕ). e .place + e .size + n) h
+
+pub past-even : (e : Entry) → e .size % 2 ≡ 0 → past e ≡ e .place + e .size
+unfolding past
+past-even e h = omega arith
+
+-- so every header stands at an even offset, as the first does
+pub past-aligned : (e : Entry) → e .place % 2 ≡ 0 → past e % 2 ≡ 0
+unfolding past
+past-aligned e h = omega arith
+
 -- ---- a step
 
 -- what a step finds

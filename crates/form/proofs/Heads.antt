@@ -11,6 +11,7 @@ use lib.Dec.{eqb, leb}
 use borrow.Author.Tests.{le-leb, leb-true, eq-eqb, ne-eqb, eqb-true, eqb-false, not-true}
 use Rattle.le.specs.Number.{number}
 use Rattle.le.specs.Choice.{pick, every}
+use Rattle.le.proofs.Laws.{number-split}
 use Rattle.chunk.specs.declared.Refusal.the-variants.{Short, NotWave, Unfinished, BadDs64, FormSize}
 use Rattle.chunk.specs.Refusals.{Answer, refused, given, check, andThen}
 use Rattle.chunk.specs.Names.{RIFF, RF64, BW64, WAVE, DS64, ONES}
@@ -137,6 +138,15 @@ rules-ds64 len name size count r =
       le-leb count 16 (r .few),
       le-leb (20 + size + size % 2) len (r .ends),
     )
+
+-- each 64-bit number of ds64 is its low half and 2 ^ 32 times its high half
+pub ds64-whole : (s : List ℕ) → 48 ≤ length s
+    → (ds64At s .riff ≡ number 4 20 s + 0x1_0000_0000 * number 4 24 s)
+    × (ds64At s .audio ≡ number 4 28 s + 0x1_0000_0000 * number 4 32 s)
+    × (ds64At s .third ≡ number 4 36 s + 0x1_0000_0000 * number 4 40 s)
+unfolding ds64At
+ds64-whole s h =
+    (number-split 4 4 20 s (omega arith), number-split 4 4 28 s (omega arith), number-split 4 4 36 s (omega arith))
 
 -- ---- both directions
 

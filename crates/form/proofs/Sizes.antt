@@ -4,12 +4,14 @@
 use mathlib.Core.Path.{_≡_, refl, sym, _∙_, ap, subst}
 use mathlib.Core.Bool.{Bool, true, false, not, _&&_}
 use mathlib.Core.List.{List, [], _∷_}
-use Prim.Native.Nat.{ℕ, _+_, _≤_}
+use Prim.Native.Nat.{ℕ, suc, _+_, _*_, _≤_}
 use native.Mathlib.Omega.{arith}
-use lib.ListN.{drop}
+use lib.ListN.{length, drop}
 use lib.Dec.{eqb}
 use borrow.Author.Tests.{eq-eqb, ne-eqb, eqb-true, eqb-false, not-true}
+use Rattle.le.specs.Number.{number}
 use Rattle.le.specs.Choice.{pick}
+use Rattle.le.proofs.Laws.{number-split}
 use Rattle.chunk.specs.declared.Refusal.the-variants.{BadDs64, NoSize}
 use Rattle.chunk.specs.Refusals.{Answer, refused, given, check}
 use Rattle.chunk.specs.Names.{DS64, DATA, ONES}
@@ -19,7 +21,7 @@ use Rattle.form.specs.declared.Form.the-variants.{Riff, Rf64, Bw64}
 use Rattle.form.specs.declared.Ds64.{Ds64}
 use Rattle.form.specs.declared.Head.{Head}
 use Rattle.form.specs.Forms.{isWide, noDs64}
-use Rattle.form.specs.Sizes.{Known, entriesIn, entriesOf, onesSize, trueSize}
+use Rattle.form.specs.Sizes.{Known, entriesIn, entriesOf, entrySize, onesSize, trueSize}
 
 -- ---- the test on ds64's place
 
@@ -98,3 +100,38 @@ true-data h ks at w = go (h .form) w
 pub no-entries : (h : Head) (s : List ℕ) → h .ds64 .count ≡ 0 → entriesOf h s ≡ []
 unfolding entriesOf entriesIn
 no-entries h s e = rw e
+
+-- an entry's size is its low half and 2 ^ 32 times its high half
+pub entry-whole : (n : ℕ) (s : List ℕ) → 12 ≤ length s
+    → entriesIn (suc n) s ≡ record { name = number 4 0 s; size = number 4 4 s + 0x1_0000_0000 * number 4 8 s } ∷ entriesIn n (drop 12 s)
+unfolding entriesIn
+entry-whole n s h =
+    ap (λ (x : ℕ). record { name = number 4 0 s; size = x } ∷ entriesIn n (drop 12 s)) (number-split 4 4 4 s (omega arith))
+
+-- "the first entry of that name", or 7
+pub entry-first : (name : ℕ) (k : Known) (ks : List Known) → k .name ≡ name → entrySize name (k ∷ ks) ≡ given (k .size)
+unfolding entrySize
+entry-first name k ks h = pick-true (eqb (k .name) name) _ _ (eq-eqb (k .name) name h)
+
+pub entry-later : (name : ℕ) (k : Known) (ks : List Known) → (k .name ≡ name → ⊥) → entrySize name (k ∷ ks) ≡ entrySize name ks
+unfolding entrySize
+entry-later name k ks h = pick-false (eqb (k .name) name) _ _ (ne-eqb (k .name) name h)
+
+pub entry-none : (name : ℕ) → entrySize name [] ≡ refused NoSize
+unfolding entrySize
+entry-none name = refl
+
+-- "on another chunk, the first entry of that name"
+pub true-entry : (h : Head) (ks : List Known) (at name : ℕ) → isWide (h .form) ≡ true → (name ≡ DS64 → ⊥) → (name ≡ DATA → ⊥)
+    → trueSize h ks at name ONES ≡ entrySize name ks
+unfolding trueSize onesSize isWide
+true-entry h ks at name w k l = check-true (ds64Placed h at name) _ _ (other-placed h at name k) ∙ go (h .form) w
+  where
+    go : (f : Form) → isWide f ≡ true → onesSize f (h .ds64) ks name ≡ entrySize name ks
+    go Riff e = absurd (true-false false e refl)
+    go Rf64 e = pick-false (eqb name DATA) _ _ (ne-eqb name DATA l)
+    go Bw64 e = pick-false (eqb name DATA) _ _ (ne-eqb name DATA l)
+
+-- a data chunk with a size of its own keeps it, whatever ds64 says
+pub data-own : (h : Head) (ks : List Known) (at own : ℕ) → (own ≡ ONES → ⊥) → trueSize h ks at DATA own ≡ given own
+data-own h ks at own l = true-own h ks at DATA own (λ p. omega arith) l
