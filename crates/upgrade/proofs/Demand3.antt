@@ -43,7 +43,8 @@ use Rattle.upgrade.specs.Upgrades.{hasFact, thirdFor, targetName, patche
 use Rattle.upgrade.specs.Demand3.{Reserved, renamed, aheadOf, targetForm, span, changed, Beside, Holds, Upgraded, SecondHalf, Demand3}
 use Rattle.upgrade.proofs.Patches.{patched-length}
 use Rattle.upgrade.proofs.Stores.{field-beside, number-beside, byte-beside, holds}
-use Rattle.upgrade.proofs.Takes.{skipped, take, Take, junk-row, rest-laid, far, past-junk, data-in, fmt-in, fact-in, own-size, not-ds64, low-beside, fact-kept, name-beside, own-beside, payload-beside, form-whole, fact-has, third-fact, fits}
+use Rattle.upgrade.proofs.Thirds.{third-fact}
+use Rattle.upgrade.proofs.Takes.{skipped, take, Take, junk-row, rest-laid, far, past-junk, data-in, fmt-in, fact-in, own-size, not-ds64, low-beside, fact-kept, name-beside, own-beside, payload-beside, form-whole, fact-has, fits}
 
 -- ---- the target's form
 
@@ -286,7 +287,7 @@ module _ (t : Target) (s : List ℕ) (h : Head) (j : Entry) (rest : List Entry) 
             fact-third (number 8 36 u) factNow (stored .fact p has)
             ∙ stored .third
             ∙ ap (λ (x : Target). thirdFor x old s) p
-            ∙ third-fact s h j rest k f has
+            ∙ third-fact old s has
         go target.Bw64 p =
             fact-bw64 (number 8 36 u) factNow
             ∙ number-beside t old s 4 (find FACT (j ∷ rest) .place)

@@ -19,7 +19,7 @@ use Rattle.chunk.specs.Names.{DS64, JUNK, FMT, FACT, DATA, WAVE, ONES}
 use Rattle.chunk.specs.Refusals.{given}
 use Rattle.chunk.specs.Tables.{count, find}
 use Rattle.chunk.specs.Walks.{Rule, past}
-use Rattle.chunk.proofs.Checks.{picked, pick-true}
+use Rattle.chunk.proofs.Checks.{picked}
 use Rattle.chunk.proofs.Laid.{Row, Laid, next, Lies, laid-lies, Apart, same, before, after, laid-apart}
 use Rattle.chunk.proofs.Finds.{First, hit, miss, first, Finds, found, only}
 use Rattle.form.specs.declared.Form.{Form}
@@ -37,6 +37,7 @@ use Rattle.upgrade.specs.declared.Target.the-variants as target
 use Rattle.upgrade.specs.Upgrades.{hasFact, frames, thirdFor}
 use Rattle.upgrade.specs.Demand3.{Span, span, factSpan, changed, Beside}
 use Rattle.upgrade.proofs.Stores.{Fits}
+use Rattle.upgrade.proofs.Thirds.{third-fact, third-frames, third-zero}
 
 -- ---- the head of a table
 
@@ -234,12 +235,14 @@ module _ (s : List ℕ) (h : Head) (j : Entry) (rest : List Entry) (k : Take s h
   data-bound = omega (arith, own-size _ (data-in .0) .1, number-bound 4 (find DATA (j ∷ rest) .place - 4) s (k .bytes))
 
   third-bound : (t : Target) (f : Format) → thirdFor t (take h j rest f) s < 256 ^ 8
-  unfolding thirdFor frames
-  third-bound target.Bw64 f = lit< tt
-  third-bound target.Rf64 f =
-      picked (λ (v : ℕ). v < 256 ^ 8) (hasFact (take h j rest f)) _ _
-      (λ _. omega (arith, number-bound 4 (find FACT (j ∷ rest) .place) s (k .bytes)))
-      (λ _. omega (arith, data-bound, div-le-self (find DATA (j ∷ rest) .size) (f .block)))
+  unfolding frames
+  third-bound target.Bw64 f = omega (arith, third-zero (take h j rest f) s)
+  third-bound target.Rf64 f = go (hasFact (take h j rest f)) refl
+    where
+      go : (b : Bool) → hasFact (take h j rest f) ≡ b → thirdFor target.Rf64 (take h j rest f) s < 256 ^ 8
+      go true e = omega (arith, third-fact (take h j rest f) s e, number-bound 4 (find FACT (j ∷ rest) .place) s (k .bytes))
+      go false e =
+          omega (arith, third-frames (take h j rest f) s e, data-bound, div-le-self (find DATA (j ∷ rest) .size) (f .block))
 
   pub has-fact : (f : Format) → hasFact (take h j rest f) ≡ true → count FACT (j ∷ rest) ≡ 0 → ⊥
   unfolding hasFact
@@ -248,12 +251,6 @@ module _ (s : List ℕ) (h : Head) (j : Entry) (rest : List Entry) (k : Take s h
   pub fact-has : (f : Format) → (count FACT (j ∷ rest) ≡ 0 → ⊥) → hasFact (take h j rest f) ≡ true
   unfolding hasFact
   fact-has f n = ap not (ne-eqb (count FACT (j ∷ rest)) 0 n)
-
-  -- "The third number is then fact's old count"
-  pub third-fact : (f : Format) → hasFact (take h j rest f) ≡ true
-      → thirdFor target.Rf64 (take h j rest f) s ≡ number 4 (find FACT (j ∷ rest) .place) s
-  unfolding thirdFor
-  third-fact f e = pick-true (hasFact (take h j rest f)) _ _ e
 
   pub fits : (t : Target) (f : Format) → Fits t s (take h j rest f)
   unfolding past
