@@ -1,26 +1,25 @@
 -- The true size of a chunk, one law an outcome: a field that is not all ones is the size; RIFF knows no other; in the
 -- 64-bit forms an all-ones field on data is ds64's data size, and ds64 itself stands at byte 12.
 -- Assumes nothing.
-use mathlib.Core.Path.{_≡_, refl, sym, _∙_, ap, subst}
+use mathlib.Core.Path.{_≡_, refl, sym, _∙_, ap}
 use mathlib.Core.Bool.{Bool, true, false, not, _&&_}
 use mathlib.Core.List.{List, [], _∷_}
 use Prim.Native.Nat.{ℕ, suc, _+_, _*_, _≤_}
 use native.Mathlib.Omega.{arith}
 use lib.ListN.{length, drop}
 use lib.Dec.{eqb}
-use borrow.Author.Tests.{eq-eqb, ne-eqb, eqb-true, eqb-false, not-true}
+use borrow.Author.Tests.{eq-eqb, ne-eqb, eqb-true}
 use Rattle.le.specs.Number.{number}
 use Rattle.le.specs.Choice.{pick}
 use Rattle.le.proofs.Laws.{number-split}
 use Rattle.chunk.specs.declared.Refusal.the-variants.{BadDs64, NoSize}
-use Rattle.chunk.specs.Refusals.{Answer, refused, given, check}
+use Rattle.chunk.specs.Refusals.{refused, given}
 use Rattle.chunk.specs.Names.{DS64, DATA, ONES}
 use Rattle.chunk.proofs.Checks.{given-inj, refused-given, true-false, check-given, check-true, pick-true, pick-false}
 use Rattle.form.specs.declared.Form.{Form}
 use Rattle.form.specs.declared.Form.the-variants.{Riff, Rf64, Bw64}
-use Rattle.form.specs.declared.Ds64.{Ds64}
 use Rattle.form.specs.declared.Head.{Head}
-use Rattle.form.specs.Forms.{isWide, noDs64}
+use Rattle.form.specs.Forms.{isWide}
 use Rattle.form.specs.Sizes.{Known, entriesIn, entriesOf, entrySize, onesSize, trueSize}
 
 -- ---- the test on ds64's place

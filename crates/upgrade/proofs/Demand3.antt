@@ -3,24 +3,23 @@
 -- lies beside the stores, and the first half at the upgraded file.
 -- Assumes nothing.
 use mathlib.Core.Path.{_≡_, refl, sym, _∙_, ap, ap₂, subst}
-use mathlib.Core.Bool.{Bool, true, false, not, _&&_}
-use mathlib.Core.Logic.{_↔_, _⊎_, inl, inr}
+use mathlib.Core.Bool.{Bool, true, false, not}
+use mathlib.Core.Logic.{_⊎_, inl, inr}
 use mathlib.Core.List.{List, [], _∷_, _++_, List·Memᴰ, List·Memᴰ·head, List·Memᴰ·tail, List·Memᴰ·not-nil, List·Memᴰ·cases-cons}
-use Prim.Native.Nat.{ℕ, suc, _+_, _-_, _*_, _%_, _^_, _≤_, _<_}
+use Prim.Native.Nat.{ℕ, _-_, _≤_}
 use native.Mathlib.Omega.{arith}
 use lib.ListN.{length}
-use lib.Dec.{eqb, leb, lit<, lit≤}
+use lib.Dec.{eqb, leb, lit≤}
 use borrow.Author.Tests.{eq-eqb, ne-eqb, le-leb, leb-true, eqb-true, eqb-false}
-use Rattle.le.specs.Number.{Bytes, field, number}
-use Rattle.le.specs.Choice.{pick}
+use Rattle.le.specs.Number.{Bytes, number}
 use Rattle.chunk.specs.declared.Entry.{Entry}
-use Rattle.chunk.specs.declared.Refusal.the-variants.{Already64, NoReserve, NoSize}
+use Rattle.chunk.specs.declared.Refusal.the-variants.{NoReserve, NoSize}
 use Rattle.chunk.specs.declared.Verdict.the-variants.{Refused}
-use Rattle.chunk.specs.Names.{DS64, JUNK, FMT, FACT, DATA, BEXT, CHNA, WAVE, ONES}
-use Rattle.chunk.specs.Refusals.{Answer, refused, given, check, andThen}
+use Rattle.chunk.specs.Names.{DS64, JUNK, FMT, FACT, DATA, BEXT, CHNA, ONES}
+use Rattle.chunk.specs.Refusals.{refused, given, check}
 use Rattle.chunk.specs.Tables.{count, find}
 use Rattle.chunk.specs.Walks.{Rule, past}
-use Rattle.chunk.proofs.Checks.{pick-true, pick-false, true-false, given-inj, refused-given, check-true, check-false, check-given, andThen-at, and-true}
+use Rattle.chunk.proofs.Checks.{pick-true, pick-false, true-false, given-inj, check-true, check-false, check-given, andThen-at, and-true}
 use Rattle.chunk.proofs.Laid.{Row, Laid, next, laid-lies, Shown, relaid}
 use Rattle.chunk.proofs.Finds.{First, hit, miss, first, only}
 use Rattle.form.specs.declared.Form.{Form}
@@ -31,20 +30,20 @@ use Rattle.form.specs.Sizes.{trueSize, entriesOf}
 use Rattle.form.proofs.Heads.{Opened, head-wide, rules-ds64, form-ones}
 use Rattle.form.proofs.Sizes.{true-own, true-ds64, true-data, own-true, riff-own}
 use Rattle.fmt.specs.declared.Format.{Format}
-use Rattle.wave.specs.Scans.{Scan, scan, payload, judged, factCount, samplesIn, samplesAs, samplesOf, walk32}
+use Rattle.wave.specs.Scans.{Scan, scan, payload, judged, factCount, samplesIn, samplesOf, walk32}
 use Rattle.wave.specs.declared.Samples.the-variants as samples
 use Rattle.wave.specs.Demand3.{ownField, Sized}
-use Rattle.wave.proofs.Scanned.{Chunked, Listed, Scanned, scan-scanned, scanned-scan}
+use Rattle.wave.proofs.Scanned.{Chunked, scan-scanned, scanned-scan}
 use Rattle.wave.proofs.Counts.{fact-riff, fact-bw64, fact-third, samples-none, samples-fact, samples-given}
 use Rattle.wave.proofs.FirstHalf.{first-half}
 use Rattle.upgrade.specs.declared.Target.{Target}
 use Rattle.upgrade.specs.declared.Target.the-variants as target
 use Rattle.upgrade.specs.Upgrades.{hasFact, thirdFor, targetName, patches, patched, reserved, upgraded}
-use Rattle.upgrade.specs.Demand3.{Reserved, renamed, aheadOf, targetForm, span, changed, Beside, Holds, Upgraded, SecondHalf, Demand3}
+use Rattle.upgrade.specs.Demand3.{Reserved, renamed, aheadOf, targetForm, changed, Beside, Holds, Upgraded, SecondHalf, Demand3}
 use Rattle.upgrade.proofs.Patches.{patched-length}
 use Rattle.upgrade.proofs.Stores.{field-beside, number-beside, byte-beside, holds}
 use Rattle.upgrade.proofs.Thirds.{third-fact}
-use Rattle.upgrade.proofs.Takes.{skipped, take, Take, junk-row, rest-laid, far, past-junk, data-in, fmt-in, fact-in, own-size, not-ds64, low-beside, fact-kept, name-beside, own-beside, payload-beside, form-whole, fact-has, fits}
+use Rattle.upgrade.proofs.Takes.{skipped, take, Take, junk-row, rest-laid, past-junk, data-in, fmt-in, own-size, not-ds64, low-beside, fact-kept, name-beside, own-beside, payload-beside, form-whole, fact-has, fits}
 
 -- ---- the target's form
 

@@ -5,24 +5,23 @@ use mathlib.Core.Path.{_≡_, refl, sym, _∙_, ap, subst}
 use mathlib.Core.Bool.{Bool, true, false}
 use mathlib.Core.Logic.{_⊎_, inl, inr}
 use mathlib.Core.List.{List, [], _∷_, _++_}
-use Prim.Native.Nat.{ℕ, _+_, _-_, _/_, _^_, _≤_, _<_}
+use Prim.Native.Nat.{ℕ, _+_, _-_, _^_, _≤_, _<_}
 use native.Mathlib.Nat.{add-zero}
 use native.Mathlib.Omega.{arith}
-use lib.ListN.{length, take, drop, getD}
+use lib.ListN.{length, drop, getD}
 use lib.Seq.{getD-take, getD-drop}
 use lib.Dec.{lit<, lit≤}
-use Rattle.le.specs.Number.{field, number, stored}
+use Rattle.le.specs.Number.{field, number}
 use Rattle.le.specs.Choice.{pick}
-use Rattle.chunk.specs.declared.Entry.{Entry}
-use Rattle.chunk.specs.Names.{RF64, BW64, DS64, FACT, DATA, ONES}
-use Rattle.chunk.specs.Tables.{count, find}
+use Rattle.chunk.specs.Names.{DS64, FACT, DATA, ONES}
+use Rattle.chunk.specs.Tables.{find}
 use Rattle.chunk.proofs.Checks.{pick-true}
 use Rattle.form.specs.Forms.{formSize}
 use Rattle.wave.specs.Scans.{Scan}
 use Rattle.upgrade.specs.declared.Target.{Target}
 use Rattle.upgrade.specs.declared.Target.the-variants.{Rf64, Bw64}
 use Rattle.upgrade.specs.Upgrades.{Patch, patch, halves, hasFact, thirdFor, factPatch, targetName, patches, patched}
-use Rattle.upgrade.specs.Demand3.{Span, span, factSpan, changed, Beside, Holds}
+use Rattle.upgrade.specs.Demand3.{span, factSpan, changed, Beside, Holds}
 use Rattle.upgrade.proofs.Patches.{Clear, none, one, past, ahead, clear-append, patched-append, patched-length, field-clear, number-clear, number-patched, number-halves}
 
 -- ---- beside the named fields

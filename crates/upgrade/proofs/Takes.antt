@@ -4,24 +4,23 @@
 use mathlib.Core.Path.{_≡_, refl, sym, _∙_, ap, subst}
 use mathlib.Core.Bool.{Bool, true, false, not}
 use mathlib.Core.Logic.{_⊎_, inl, inr}
-use mathlib.Core.List.{List, [], _∷_, List·Memᴰ, Memᴰ·cast}
-use Prim.Native.Nat.{ℕ, suc, _+_, _-_, _/_, _%_, _^_, _≤_, _<_}
+use mathlib.Core.List.{List, _∷_, List·Memᴰ, Memᴰ·cast}
+use Prim.Native.Nat.{ℕ, _+_, _-_, _^_, _≤_, _<_}
 use native.Mathlib.Nat.{div-le-self}
 use native.Mathlib.Omega.{arith}
 use lib.ListN.{length}
-use lib.Dec.{eqb, lit<, lit≤}
-use borrow.Author.Tests.{ne-eqb, eqb-true, eqb-false, not-true}
+use lib.Dec.{eqb}
+use borrow.Author.Tests.{ne-eqb, eqb-false, not-true}
 use Rattle.le.specs.Number.{Bytes, number}
-use Rattle.le.specs.Choice.{pick}
 use Rattle.le.proofs.Laws.{number-bound}
 use Rattle.chunk.specs.declared.Entry.{Entry}
-use Rattle.chunk.specs.Names.{DS64, JUNK, FMT, FACT, DATA, WAVE, ONES}
+use Rattle.chunk.specs.Names.{DS64, JUNK, FMT, FACT, DATA, ONES}
 use Rattle.chunk.specs.Refusals.{given}
 use Rattle.chunk.specs.Tables.{count, find}
 use Rattle.chunk.specs.Walks.{Rule, past}
 use Rattle.chunk.proofs.Checks.{picked}
-use Rattle.chunk.proofs.Laid.{Row, Laid, next, Lies, laid-lies, Apart, same, before, after, laid-apart}
-use Rattle.chunk.proofs.Finds.{First, hit, miss, first, Finds, found, only}
+use Rattle.chunk.proofs.Laid.{Row, Laid, next, laid-lies, Apart, same, before, after, laid-apart}
+use Rattle.chunk.proofs.Finds.{First, hit, miss, first, found}
 use Rattle.form.specs.declared.Form.{Form}
 use Rattle.form.specs.declared.Form.the-variants.{Riff}
 use Rattle.form.specs.declared.Head.{Head}
@@ -31,11 +30,11 @@ use Rattle.form.proofs.Heads.{riff-head, form-own}
 use Rattle.form.proofs.Sizes.{own-true, ds64-first, riff-own}
 use Rattle.fmt.specs.declared.Format.{Format}
 use Rattle.wave.specs.Scans.{Scan}
-use Rattle.wave.proofs.Scanned.{Chunked, Listed}
+use Rattle.wave.proofs.Scanned.{Listed}
 use Rattle.upgrade.specs.declared.Target.{Target}
 use Rattle.upgrade.specs.declared.Target.the-variants as target
 use Rattle.upgrade.specs.Upgrades.{hasFact, frames, thirdFor}
-use Rattle.upgrade.specs.Demand3.{Span, span, factSpan, changed, Beside}
+use Rattle.upgrade.specs.Demand3.{span, factSpan, changed, Beside}
 use Rattle.upgrade.proofs.Stores.{Fits}
 use Rattle.upgrade.proofs.Thirds.{third-fact, third-frames, third-zero}
 

@@ -1,9 +1,9 @@
 -- The customer's demand 3: its second half, and both halves as one statement, which proofs/Demand3.antt proves. The first
 -- half stands in the wave crate.
-use Prim.Native.Nat.{ℕ, _+_, _-_, _≤_, _<_}
+use Prim.Native.Nat.{ℕ, _+_, _-_, _≤_}
 use mathlib.Core.Path.{_≡_}
 use mathlib.Core.Logic.{_↔_, _⊎_}
-use mathlib.Core.Bool.{Bool, true}
+use mathlib.Core.Bool.{true}
 use mathlib.Core.List.{List, [], _∷_}
 use lib.ListN.{length, getD}
 use lib.Dec.{eqb}
@@ -12,10 +12,9 @@ use Rattle.le.specs.Choice.{pick}
 use Rattle.chunk.specs.declared.Entry.{Entry}
 use Rattle.chunk.specs.declared.Refusal.the-variants.{NoSize, NoReserve}
 use Rattle.chunk.specs.declared.Verdict.the-variants.{Refused}
-use Rattle.chunk.specs.Refusals.{Answer, refused, given}
+use Rattle.chunk.specs.Refusals.{refused, given}
 use Rattle.chunk.specs.Names.{DS64, JUNK, DATA, FACT, ONES}
 use Rattle.chunk.specs.Tables.{find}
-use Rattle.chunk.specs.Walks.{Walked}
 use Rattle.form.specs.declared.Form as form
 use Rattle.form.specs.declared.Form.the-variants as form-variants
 use Rattle.wave.specs.Scans.{Scan, scan, payload, samplesOf, walk32}

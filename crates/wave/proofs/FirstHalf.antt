@@ -2,10 +2,10 @@
 -- by both walks; where the own field is not all ones it is the true size by either rule, and where it is the 32-bit walk
 -- stops with 7.
 -- Assumes nothing.
-use mathlib.Core.Path.{_≡_, refl, sym, _∙_, ap, ap₂, subst}
+use mathlib.Core.Path.{_≡_, refl, sym, _∙_, ap}
 use mathlib.Core.Bool.{Bool, true, false}
-use mathlib.Core.List.{List, [], _∷_, _++_, List·Memᴰ, List·Memᴰ·head, List·Memᴰ·tail}
-use Prim.Native.Nat.{ℕ, zero, suc, _+_, _-_, _≤_}
+use mathlib.Core.List.{List, [], _∷_, _++_, List·Memᴰ·head, List·Memᴰ·tail}
+use Prim.Native.Nat.{ℕ, zero, suc, _+_, _≤_}
 use native.Mathlib.Omega.{arith}
 use lib.ListN.{length}
 use lib.Dec.{eqb}
@@ -13,20 +13,18 @@ use borrow.Author.Tests.{eq-eqb, ne-eqb, eqb-true, eqb-false}
 use Rattle.le.specs.Number.{number}
 use Rattle.chunk.specs.declared.Entry.{Entry}
 use Rattle.chunk.specs.declared.Refusal.the-variants.{NoSize}
-use Rattle.chunk.specs.declared.Verdict.{Verdict}
 use Rattle.chunk.specs.declared.Verdict.the-variants.{Accepted, Refused}
-use Rattle.chunk.specs.Refusals.{Answer, refused, given}
+use Rattle.chunk.specs.Refusals.{Answer, given}
 use Rattle.chunk.specs.Names.{ONES}
 use Rattle.chunk.specs.Walks.{Rule, past, Walked, walk, ownSize}
 use Rattle.chunk.proofs.Checks.{pick-true, pick-false}
 use Rattle.chunk.proofs.Laid.{Row, Laid, done, next, row-fits, step-end, step-row, step-refused, walk-stop, walk-chunk, own-ones, own-given}
-use Rattle.form.specs.Forms.{openFor32}
 use Rattle.form.specs.Sizes.{trueSize, entriesOf}
 use Rattle.form.proofs.Heads.{opened-32}
 use Rattle.form.proofs.Sizes.{own-true}
 use Rattle.wave.specs.Scans.{Scan, scan, walkFrom, walk32}
 use Rattle.wave.specs.Demand3.{ownField, ahead, stop, Sized, FirstHalf}
-use Rattle.wave.proofs.Scanned.{Listed, Scanned, scan-scanned}
+use Rattle.wave.proofs.Scanned.{scan-scanned}
 
 -- ---- the rows ahead, and the end
 

@@ -1,24 +1,20 @@
 -- An accepted file: what the scan's answer tells of its bytes, and what has to hold of them for that answer. The chain of
 -- checks is inverted link by link and built link by link, and the walk is exchanged for rows that are laid.
 -- Assumes nothing.
-use mathlib.Core.Path.{_≡_, refl, sym, _∙_, ap, subst}
-use mathlib.Core.Bool.{Bool, true, false, _||_}
-use mathlib.Core.List.{List, [], _∷_}
-use Prim.Native.Nat.{ℕ, _%_, _≤_, _<_}
-use native.Mathlib.Omega.{arith}
+use mathlib.Core.Path.{_≡_, refl, _∙_, ap, subst}
+use mathlib.Core.Bool.{true, _||_}
+use mathlib.Core.List.{List}
+use Prim.Native.Nat.{ℕ, _≤_, _<_}
 use lib.ListN.{length}
 use lib.Dec.{eqb, leb, ltb}
 use borrow.Author.Tests.{le-leb, leb-true, eq-eqb, ne-eqb, eqb-true, eqb-false, lt-ltb, ltb-true}
-use Rattle.le.specs.Choice.{pick, every}
 use Rattle.chunk.specs.declared.Entry.{Entry}
-use Rattle.chunk.specs.declared.Refusal.{Refusal}
-use Rattle.chunk.specs.declared.Refusal.the-variants.{Chunks}
 use Rattle.chunk.specs.declared.Verdict.{Verdict}
 use Rattle.chunk.specs.declared.Verdict.the-variants.{Accepted, Refused}
-use Rattle.chunk.specs.Refusals.{Answer, refused, given, check, andThen}
+use Rattle.chunk.specs.Refusals.{given}
 use Rattle.chunk.specs.Names.{FMT, DATA, FACT, BEXT, CHNA}
 use Rattle.chunk.specs.Tables.{count, find}
-use Rattle.chunk.specs.Walks.{Rule, Walked, walk}
+use Rattle.chunk.specs.Walks.{Walked}
 use Rattle.chunk.proofs.Checks.{given-inj, refused-given, check-given, check-true, andThen-given, andThen-at, rule-and, or-true, or-false}
 use Rattle.chunk.proofs.Laid.{Laid, walk-laid, laid-walk}
 use Rattle.form.specs.declared.Head.{Head}

@@ -1,26 +1,22 @@
 -- What every accepted table is: its rows stand end to end from byte 12 to the end of the file, under check 10, with ds64
 -- first in a 64-bit form and nowhere else. Each fact is read off rows that are laid.
 -- Assumes nothing.
-use mathlib.Core.Path.{_≡_, refl, sym, _∙_, ap, subst}
-use mathlib.Core.Bool.{Bool, true, false}
-use mathlib.Core.List.{List, [], _∷_, _++_, List·Memᴰ, List·Memᴰ·head, List·Memᴰ·tail}
+use mathlib.Core.Path.{_≡_, refl, sym, _∙_, subst}
+use mathlib.Core.List.{List, [], _∷_, _++_, List·Memᴰ}
 use Prim.Native.Nat.{ℕ, _+_, _-_, _≤_}
 use native.Mathlib.Omega.{arith}
 use lib.ListN.{length}
 use Rattle.le.specs.Number.{number}
 use Rattle.chunk.specs.declared.Entry.{Entry}
 use Rattle.chunk.specs.Refusals.{given}
-use Rattle.chunk.specs.Names.{DS64, DATA}
-use Rattle.chunk.specs.Tables.{count}
 use Rattle.chunk.specs.Walks.{Rule, past}
-use Rattle.chunk.proofs.Laid.{Row, Laid, done, next, Lies, laid-lies}
-use Rattle.form.specs.Forms.{isWide, headAs}
+use Rattle.chunk.proofs.Laid.{Laid, done, next, laid-lies}
 use Rattle.form.specs.Sizes.{trueSize, entriesOf}
 use Rattle.form.proofs.Heads.{wide-head, ds64-rules}
 use Rattle.form.proofs.Sizes.{own-true, ds64-first}
 use Rattle.wave.specs.Scans.{Scan, scan}
 use Rattle.wave.specs.Demand3.{ownField, EndToEnd, GoodTable}
-use Rattle.wave.proofs.Scanned.{Scanned, scan-scanned}
+use Rattle.wave.proofs.Scanned.{scan-scanned}
 
 laid-ends : {rule : Rule} {s : List ℕ} {at : ℕ} {rows : List Entry} → Laid rule s at rows → EndToEnd at rows (length s)
 unfolding EndToEnd
