@@ -3,7 +3,7 @@
 -- Assumes nothing.
 use mathlib.Core.Path.{_≡_, refl, sym, _∙_, ap, subst}
 use mathlib.Core.Bool.{Bool, true, false, not}
-use mathlib.Core.Logic.{_⊎_, inl, inr}
+use mathlib.Core.Logic.{inl, inr}
 use mathlib.Core.List.{List, _∷_, List·Memᴰ, Memᴰ·cast}
 use Prim.Native.Nat.{ℕ, _+_, _-_, _^_, _≤_, _<_}
 use native.Mathlib.Nat.{div-le-self}
@@ -34,7 +34,7 @@ use Rattle.wave.proofs.Scanned.{Listed}
 use Rattle.upgrade.specs.declared.Target.{Target}
 use Rattle.upgrade.specs.declared.Target.the-variants as target
 use Rattle.upgrade.specs.Upgrades.{hasFact, frames, thirdFor}
-use Rattle.upgrade.specs.Demand3.{span, factSpan, changed, Beside}
+use Rattle.upgrade.specs.Demand3.{Off, span, factSpan, changed, Beside}
 use Rattle.upgrade.proofs.Stores.{Fits}
 use Rattle.upgrade.proofs.Thirds.{third-fact, third-frames, third-zero}
 
@@ -58,6 +58,17 @@ laid-cons (next r l) = (r, l)
 abbrev pub take : Head → Entry → List Entry → Format → Scan
 take h j rest f = record { head = h; rows = j ∷ rest; format = f }
 
+-- the take has a fact
+abbrev Fact : Entry → List Entry → Type 0
+Fact j rest = count FACT (j ∷ rest) ≡ 0 → ⊥
+
+-- the n bytes at a place lie off data's own field, and off fact's first four bytes
+abbrev OffData : Entry → List Entry → ℕ → ℕ → Type 0
+OffData j rest n at = Off n at 4 (find DATA (j ∷ rest) .place - 4)
+
+abbrev OffFact : Entry → List Entry → ℕ → ℕ → Type 0
+OffFact j rest n at = Off n at 4 (find FACT (j ∷ rest) .place)
+
 pub record Take (s : List ℕ) (h : Head) (j : Entry) (rest : List Entry) : Type 0 where
   pub bytes : Bytes s
   pub riff : h .form ≡ Riff
@@ -78,7 +89,8 @@ module _ (s : List ℕ) (h : Head) (j : Entry) (rest : List Entry) (k : Take s h
   far e m = omega (arith, laid-lies rest-laid m .after, junk-row .place, k .holds)
 
   -- the first chunk is JUNK, so every other name is found past it
-  pub past-junk : (name : ℕ) → (JUNK ≡ name → ⊥) → (count name (j ∷ rest) ≡ count name rest) × (find name (j ∷ rest) ≡ find name rest)
+  pub past-junk : (name : ℕ) → (JUNK ≡ name → ⊥)
+      → (count name (j ∷ rest) ≡ count name rest) × (find name (j ∷ rest) ≡ find name rest)
   past-junk name n = skipped name j rest (λ p. n (sym (k .junk) ∙ p))
 
   pub in-rest : (name : ℕ) → (JUNK ≡ name → ⊥) → 1 ≤ count name (j ∷ rest)
@@ -94,7 +106,7 @@ module _ (s : List ℕ) (h : Head) (j : Entry) (rest : List Entry) (k : Take s h
   pub fmt-in : List·Memᴰ (find FMT (j ∷ rest)) rest × (find FMT (j ∷ rest) .name ≡ FMT)
   fmt-in = in-rest FMT (λ p. omega arith) (omega (arith, k .listed .chunked .oneFmt))
 
-  pub fact-in : (count FACT (j ∷ rest) ≡ 0 → ⊥) → List·Memᴰ (find FACT (j ∷ rest)) rest × (find FACT (j ∷ rest) .name ≡ FACT)
+  pub fact-in : Fact j rest → List·Memᴰ (find FACT (j ∷ rest)) rest × (find FACT (j ∷ rest) .name ≡ FACT)
   fact-in n = in-rest FACT (λ p. omega arith) (omega (arith, n))
 
   -- in RIFF the own field is the size, and not all ones
@@ -113,22 +125,19 @@ module _ (s : List ℕ) (h : Head) (j : Entry) (rest : List Entry) (k : Take s h
       )
 
   -- fact and data are apart
-  pub fact-apart : (count FACT (j ∷ rest) ≡ 0 → ⊥)
-      → (find FACT (j ∷ rest) .place + 4 ≤ find DATA (j ∷ rest) .place - 4) ⊎ (find DATA (j ∷ rest) .place ≤ find FACT (j ∷ rest) .place)
+  fact-apart : Fact j rest → OffData j rest 4 (find FACT (j ∷ rest) .place)
   unfolding past
   fact-apart c = go (laid-apart rest-laid (fact-in c .0) (data-in .0))
     where
-      go : Apart (find FACT (j ∷ rest)) (find DATA (j ∷ rest))
-          → (find FACT (j ∷ rest) .place + 4 ≤ find DATA (j ∷ rest) .place - 4) ⊎ (find DATA (j ∷ rest) .place ≤ find FACT (j ∷ rest) .place)
+      go : Apart (find FACT (j ∷ rest)) (find DATA (j ∷ rest)) → OffData j rest 4 (find FACT (j ∷ rest) .place)
       go (same p) = absurd (omega (arith, fact-in c .1, data-in .1, ap (λ (x : Entry). x .name) p))
       go (before p) = inl (omega (arith, k .listed .chunked .factHolds c))
-      go (after p) = inr (omega arith)
+      go (after p) = inr (omega (arith, far _ (data-in .0)))
 
   -- ---- beside the changed fields
 
   module _ (t : Target) (f : Format) (n at : ℕ) where
-    fact-beside : ((count FACT (j ∷ rest) ≡ 0 → ⊥) → (at + n ≤ find FACT (j ∷ rest) .place) ⊎ (find FACT (j ∷ rest) .place + 4 ≤ at))
-        → Beside n at (factSpan t (take h j rest f))
+    fact-beside : (Fact j rest → OffFact j rest n at) → Beside n at (factSpan t (take h j rest f))
     unfolding factSpan Beside span hasFact
     fact-beside g = go t
       where
@@ -138,60 +147,39 @@ module _ (s : List ℕ) (h : Head) (j : Entry) (rest : List Entry) (k : Take s h
             picked (Beside n at) (not (eqb (count FACT (j ∷ rest)) 0)) _ _
             (λ e. (g (eqb-false (count FACT (j ∷ rest)) 0 (not-true _ e)), tt)) (λ _. tt)
 
-    beside : 48 ≤ at → (at + n ≤ find DATA (j ∷ rest) .place - 4) ⊎ (find DATA (j ∷ rest) .place ≤ at)
-        → Beside n at (factSpan t (take h j rest f)) → Beside n at (changed t (take h j rest f))
+    -- past the reserve only data's field and fact are changed
+    beside : 48 ≤ at → OffData j rest n at → Beside n at (factSpan t (take h j rest f)) → Beside n at (changed t (take h j rest f))
     unfolding changed Beside span
-    beside l d g = (inr (omega arith), (inr (omega arith), (inr (omega arith), (inr (omega arith), (data-side d, g)))))
-      where
-        data-side : (at + n ≤ find DATA (j ∷ rest) .place - 4) ⊎ (find DATA (j ∷ rest) .place ≤ at)
-            → (at + n ≤ find DATA (j ∷ rest) .place - 4) ⊎ (find DATA (j ∷ rest) .place - 4 + 4 ≤ at)
-        data-side (inl p) = inl p
-        data-side (inr p) = inr (omega (arith, far _ (data-in .0)))
+    beside l d g = (inr (omega arith), (inr (omega arith), (inr (omega arith), (inr (omega arith), (d, g)))))
 
-    -- WAVE and JUNK's own size
-    pub low-beside : 8 ≤ at → at + n ≤ 20 → (at + n ≤ 12) ⊎ (16 ≤ at) → Beside n at (changed t (take h j rest f))
+    -- WAVE and JUNK's own size lie between the fields ahead of it
+    pub low-beside : 8 ≤ at → at + n ≤ 20 → Off n at 4 12 → Beside n at (changed t (take h j rest f))
     unfolding changed Beside span
-    low-beside p q r = (
-      inr (omega arith),
-      (
-        inr (omega arith),
-        (
-          r,
-          (
-            inl q,
-            (
-              inl (omega (arith, far _ (data-in .0))),
-              fact-beside (λ c. inl (omega (arith, far _ (fact-in c .0)))),
-            ),
-          ),
-        ),
-      ),
-    )
+    low-beside p q r =
+        let d : OffData j rest n at = inl (omega (arith, far _ (data-in .0))) in
+        let g = fact-beside (λ c. inl (omega (arith, far _ (fact-in c .0)))) in
+        (inr (omega arith), (inr (omega arith), (r, (inl q, (d, g)))))
 
   -- for BW64 fact lies beside them
-  pub fact-kept : (f : Format) → (count FACT (j ∷ rest) ≡ 0 → ⊥)
-      → Beside 4 (find FACT (j ∷ rest) .place) (changed target.Bw64 (take h j rest f))
+  pub fact-kept : (f : Format) → Fact j rest → Beside 4 (find FACT (j ∷ rest) .place) (changed target.Bw64 (take h j rest f))
   unfolding factSpan Beside
   fact-kept f c = beside target.Bw64 f 4 (find FACT (j ∷ rest) .place) (omega (arith, far _ (fact-in c .0))) (fact-apart c) tt
 
   module _ (t : Target) (f : Format) (e : Entry) (m : List·Memᴰ e rest) where
-    -- bytes of a chunk, from its header to its pad, lie beside the fields of every other chunk
-    within : (n at : ℕ) → e .place - 8 ≤ at → at + n ≤ past e
-        → (e ≡ find DATA (j ∷ rest) → (at + n ≤ find DATA (j ∷ rest) .place - 4) ⊎ (find DATA (j ∷ rest) .place ≤ at))
-        → ((count FACT (j ∷ rest) ≡ 0 → ⊥) → e ≡ find FACT (j ∷ rest) → (at + n ≤ find FACT (j ∷ rest) .place) ⊎ (find FACT (j ∷ rest) .place + 4 ≤ at))
-        → Beside n at (changed t (take h j rest f))
+    -- bytes of a chunk, from its header to its pad, lie off the fields of every other chunk
+    within : (n at : ℕ) → e .place - 8 ≤ at → at + n ≤ past e → (e ≡ find DATA (j ∷ rest) → OffData j rest n at)
+        → (Fact j rest → e ≡ find FACT (j ∷ rest) → OffFact j rest n at) → Beside n at (changed t (take h j rest f))
     unfolding past
     within n at from to is-data is-fact =
         beside t f n at (omega (arith, far e m)) (side-data (laid-apart rest-laid m (data-in .0)))
         (fact-beside t f n at (λ c. side-fact c (laid-apart rest-laid m (fact-in c .0))))
       where
-        side-data : Apart e (find DATA (j ∷ rest)) → (at + n ≤ find DATA (j ∷ rest) .place - 4) ⊎ (find DATA (j ∷ rest) .place ≤ at)
+        side-data : Apart e (find DATA (j ∷ rest)) → OffData j rest n at
         side-data (same p) = is-data p
         side-data (before p) = inl (omega arith)
-        side-data (after p) = inr (omega arith)
+        side-data (after p) = inr (omega (arith, far _ (data-in .0)))
 
-        side-fact : (count FACT (j ∷ rest) ≡ 0 → ⊥) → Apart e (find FACT (j ∷ rest))
-            → (at + n ≤ find FACT (j ∷ rest) .place) ⊎ (find FACT (j ∷ rest) .place + 4 ≤ at)
+        side-fact : Fact j rest → Apart e (find FACT (j ∷ rest)) → OffFact j rest n at
         side-fact c (same p) = is-fact c p
         side-fact c (before p) = inl (omega arith)
         side-fact c (after p) = inr (omega (arith, k .listed .chunked .factHolds c))
@@ -217,7 +205,7 @@ module _ (s : List ℕ) (h : Head) (j : Entry) (rest : List Entry) (k : Take s h
     unfolding past
     payload-beside o =
         within (e .size) (e .place) (omega arith) (omega arith)
-        (λ p. inr (omega (arith, at-same _ p)))
+        (λ p. inr (omega (arith, far e m, at-same _ p)))
         (λ c p. absurd (o (ap (λ (x : Entry). x .name) p ∙ fact-in c .1)))
 
   -- ---- the fields fit
@@ -243,11 +231,11 @@ module _ (s : List ℕ) (h : Head) (j : Entry) (rest : List Entry) (k : Take s h
       go false e =
           omega (arith, third-frames (take h j rest f) s e, data-bound, div-le-self (find DATA (j ∷ rest) .size) (f .block))
 
-  pub has-fact : (f : Format) → hasFact (take h j rest f) ≡ true → count FACT (j ∷ rest) ≡ 0 → ⊥
+  pub has-fact : (f : Format) → hasFact (take h j rest f) ≡ true → Fact j rest
   unfolding hasFact
   has-fact f e = eqb-false (count FACT (j ∷ rest)) 0 (not-true _ e)
 
-  pub fact-has : (f : Format) → (count FACT (j ∷ rest) ≡ 0 → ⊥) → hasFact (take h j rest f) ≡ true
+  pub fact-has : (f : Format) → Fact j rest → hasFact (take h j rest f) ≡ true
   unfolding hasFact
   fact-has f n = ap not (ne-eqb (count FACT (j ∷ rest)) 0 n)
 

@@ -69,10 +69,14 @@ changed t a =
     ∷ span (find DATA (a .rows) .place - 4) 4
     ∷ factSpan t a
 
+-- the n bytes at one place and the m bytes at another have none in common
+abbrev pub Off : ℕ → ℕ → ℕ → ℕ → Type 0
+Off n at m from = (at + n ≤ from) ⊎ (from + m ≤ at)
+
 -- the n bytes at a place lie outside every one of these runs
 unfoldable pub Beside : ℕ → ℕ → List Span → Type 0
 Beside n at [] = Unit {0}
-Beside n at (x ∷ xs) = ((at + n ≤ x .from) ⊎ (x .from + x .size ≤ at)) × Beside n at xs
+Beside n at (x ∷ xs) = Off n at (x .size) (x .from) × Beside n at xs
 
 -- what the changed bytes hold: "The form and data fields become all ones; the 28 bytes hold the true form size, the true
 -- data size, the third number and an entry count of 0"
