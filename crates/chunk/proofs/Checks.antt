@@ -64,6 +64,10 @@ pub andThen-at : {A B : Type 0} (x : Answer A) (k : A → Answer B) (a : A) → 
 unfolding andThen
 andThen-at x k a e = rw e
 
+pub andThen-refused : {A B : Type 0} (x : Answer A) (k : A → Answer B) (r : Refusal) → x ≡ refused r → andThen x k ≡ refused r
+unfolding andThen
+andThen-refused x k r e = rw e
+
 -- ---- a rule of `every`, and the rules after it
 
 pub rule-and : (b c : Bool) → pick b c false ≡ true → (b ≡ true) × (c ≡ true)

@@ -1,412 +1,62 @@
--- Demand 3, second half. Each header of the upgraded take reads as it did, but for the first name and data's own field,
--- and by the new rule each size is the old one; so the same rows are laid in it, and the scan accepts it. The rest is what
--- lies beside the stores, and the first half at the upgraded file.
+-- Demand 3: the upgrade's outcomes, and what an upgraded take is, put together with the first half.
 -- Assumes nothing.
-use mathlib.Core.Path.{_≡_, refl, sym, _∙_, ap, ap₂, subst}
-use mathlib.Core.Bool.{Bool, true, false, not}
-use mathlib.Core.Logic.{_⊎_, inl, inr}
-use mathlib.Core.List.{List, [], _∷_, _++_, List·Memᴰ, List·Memᴰ·head, List·Memᴰ·tail, List·Memᴰ·not-nil, List·Memᴰ·cases-cons}
-use Prim.Native.Nat.{ℕ, _-_, _≤_}
-use native.Mathlib.Omega.{arith}
-use lib.ListN.{length}
-use lib.Dec.{eqb, leb, lit≤}
-use borrow.Author.Tests.{eq-eqb, ne-eqb, le-leb, leb-true, eqb-true, eqb-false}
-use Rattle.le.specs.Number.{Bytes, number}
+use mathlib.Core.Path.{_≡_, subst}
+use mathlib.Core.Bool.{false}
+use mathlib.Core.List.{List, [], _∷_}
+use Prim.Native.Nat.{ℕ}
+use Rattle.le.specs.Number.{Bytes}
 use Rattle.chunk.specs.declared.Entry.{Entry}
-use Rattle.chunk.specs.declared.Refusal.the-variants.{NoReserve, NoSize}
-use Rattle.chunk.specs.declared.Verdict.the-variants.{Refused}
-use Rattle.chunk.specs.Names.{DS64, JUNK, FMT, FACT, DATA, BEXT, CHNA, ONES}
-use Rattle.chunk.specs.Refusals.{refused, given, check}
-use Rattle.chunk.specs.Tables.{count, find}
-use Rattle.chunk.specs.Walks.{Rule, past}
-use Rattle.chunk.proofs.Checks.{pick-true, pick-false, true-false, given-inj, check-true, check-false, check-given, andThen-at, and-true}
-use Rattle.chunk.proofs.Laid.{Row, Laid, next, laid-lies, Shown, relaid}
-use Rattle.chunk.proofs.Finds.{First, hit, miss, first, only}
+use Rattle.chunk.specs.Refusals.{given}
+use Rattle.chunk.proofs.Finds.{first}
 use Rattle.form.specs.declared.Form.{Form}
 use Rattle.form.specs.declared.Form.the-variants.{Riff}
 use Rattle.form.specs.declared.Head.{Head}
-use Rattle.form.specs.Forms.{nameOf, isWide, ds64At, formSize}
-use Rattle.form.specs.Sizes.{trueSize, entriesOf}
-use Rattle.form.proofs.Heads.{Opened, head-wide, rules-ds64, form-ones}
-use Rattle.form.proofs.Sizes.{true-own, true-ds64, true-data, own-true, riff-own}
+use Rattle.form.specs.Forms.{isWide}
 use Rattle.fmt.specs.declared.Format.{Format}
-use Rattle.wave.specs.Scans.{Scan, scan, payload, judged, factCount, samplesIn, samplesOf, walk32}
+use Rattle.wave.specs.Scans.{Scan, scan}
 use Rattle.wave.specs.declared.Samples.the-variants as samples
-use Rattle.wave.specs.Demand3.{ownField, Sized}
-use Rattle.wave.proofs.Scanned.{Chunked, scan-scanned, scanned-scan}
-use Rattle.wave.proofs.Counts.{fact-riff, fact-bw64, fact-third, samples-none, samples-fact, samples-given}
+use Rattle.wave.proofs.Scanned.{scan-scanned}
 use Rattle.wave.proofs.FirstHalf.{first-half}
 use Rattle.upgrade.specs.declared.Target.{Target}
 use Rattle.upgrade.specs.declared.Target.the-variants as target
-use Rattle.upgrade.specs.Upgrades.{hasFact, thirdFor, targetName, patches, patched, reserved, upgraded}
-use Rattle.upgrade.specs.Demand3.{Reserved, renamed, aheadOf, targetForm, changed, Beside, Holds, Upgraded, SecondHalf, Demand3}
-use Rattle.upgrade.proofs.Patches.{patched-length}
-use Rattle.upgrade.proofs.Stores.{field-beside, number-beside, byte-beside, holds}
-use Rattle.upgrade.proofs.Thirds.{third-fact}
-use Rattle.upgrade.proofs.Takes.{skipped, take, Take, junk-row, rest-laid, past-junk, data-in, fmt-in, own-size, not-ds64, low-beside, fact-kept, name-beside, own-beside, payload-beside, form-whole, fact-has, fits}
+use Rattle.upgrade.specs.Upgrades.{patches, patched}
+use Rattle.upgrade.specs.Demand3.{Reserved, Upgraded, SecondHalf, Demand3}
+use Rattle.upgrade.proofs.Stores.{holds}
+use Rattle.upgrade.proofs.Takes.{take, Take}
+use Rattle.upgrade.proofs.Outcomes.{reserved-true, true-reserved, not-reserved, upgrade-unreserved, upgrade-given, upgrade-succeeded}
+use Rattle.upgrade.proofs.Upgraded.{take-upgraded}
 
--- ---- the target's form
-
-target-named : (t : Target) → targetName t ≡ nameOf (targetForm t)
-unfolding targetName nameOf targetForm
-target-named target.Rf64 = refl
-target-named target.Bw64 = refl
-
-target-wide : (t : Target) → isWide (targetForm t) ≡ true
-unfolding isWide targetForm
-target-wide target.Rf64 = refl
-target-wide target.Bw64 = refl
-
-abbrev ds64Row : Entry → Entry
-ds64Row j = record { name = DS64; place = j .place; size = j .size }
-
-abbrev headIn : Target → List ℕ → Head
-headIn t u = record { form = targetForm t; ds64 = ds64At u }
-
--- a name that is neither JUNK nor ds64 is counted and found as it was
-renamed-same : (name : ℕ) (j : Entry) (rest : List Entry) → j .name ≡ JUNK → (JUNK ≡ name → ⊥) → (DS64 ≡ name → ⊥)
-    → (count name (ds64Row j ∷ rest) ≡ count name (j ∷ rest)) × (find name (ds64Row j ∷ rest) ≡ find name (j ∷ rest))
-renamed-same name j rest e p q =
-    let a = skipped name (ds64Row j) rest q in
-    let b = skipped name j rest (λ r. p (sym e ∙ r)) in
-    (a .0 ∙ sym (b .0), a .1 ∙ sym (b .1))
-
-renamed-chunked : (j : Entry) (rest : List Entry) → j .name ≡ JUNK → Chunked (j ∷ rest) → Chunked (ds64Row j ∷ rest)
-renamed-chunked j rest e c =
-    let fmt = renamed-same FMT j rest e (λ p. omega arith) (λ p. omega arith) in
-    let audio = renamed-same DATA j rest e (λ p. omega arith) (λ p. omega arith) in
-    let fact = renamed-same FACT j rest e (λ p. omega arith) (λ p. omega arith) in
-    let bext = renamed-same BEXT j rest e (λ p. omega arith) (λ p. omega arith) in
-    let chna = renamed-same CHNA j rest e (λ p. omega arith) (λ p. omega arith) in
-    record {
-      oneFmt = fmt .0 ∙ c .oneFmt;
-      oneData = audio .0 ∙ c .oneData;
-      fmtFirst = rw (fmt .1, audio .1) (c .fmtFirst);
-      bext = rw (bext .0) (c .bext);
-      chna = rw (chna .0) (c .chna);
-      fact = rw (fact .0) (c .fact);
-      factHolds = rw (fact .0, fact .1) (c .factHolds);
-    }
-
--- ---- the chunks ahead of the first of a name
-
-record Split (name : ℕ) (rows : List Entry) : Type 0 where
-  behind : List Entry
-  is : rows ≡ aheadOf name rows ++ find name rows ∷ behind
-  others : (e : Entry) → List·Memᴰ e (aheadOf name rows) → List·Memᴰ e rows × (e .name ≡ name → ⊥)
-
-split : (name : ℕ) (rows : List Entry) → 1 ≤ count name rows → Split name rows
-unfolding aheadOf count
-split name [] c = absurd (omega arith)
-split name (x ∷ xs) c = go (split name xs) (first name x xs)
-  where
-    go : (1 ≤ count name xs → Split name xs) → First name x xs → Split name (x ∷ xs)
-    go below (hit p n f) =
-        let a : aheadOf name (x ∷ xs) ≡ [] = pick-true (eqb (x .name) name) _ _ (eq-eqb (x .name) name p) in
-        record {
-          behind = xs;
-          is = sym (ap₂ (λ (l : List Entry) (y : Entry). l ++ y ∷ xs) a f);
-          others = λ e m. absurd (List·Memᴰ·not-nil (subst (List·Memᴰ e) a m));
-        }
-    go below (miss p n f) =
-        let a : aheadOf name (x ∷ xs) ≡ x ∷ aheadOf name xs = pick-false (eqb (x .name) name) _ _ (ne-eqb (x .name) name p) in
-        let b = below (omega arith) in
-        record {
-          behind = b .behind;
-          is = ap (λ (l : List Entry). x ∷ l) (b .is) ∙ sym (ap₂ (λ (l : List Entry) (y : Entry). l ++ y ∷ b .behind) a f);
-          others = λ e m. member e (b .others e) (List·Memᴰ·cases-cons (subst (List·Memᴰ e) a m));
-        }
-      where
-        member : (e : Entry) → (List·Memᴰ e (aheadOf name xs) → List·Memᴰ e xs × (e .name ≡ name → ⊥))
-            → (e ≡ x) ⊎ List·Memᴰ e (aheadOf name xs) → List·Memᴰ e (x ∷ xs) × (e .name ≡ name → ⊥)
-        member e g (inl q) = (List·Memᴰ·head q, λ r. p (sym (ap (λ (y : Entry). y .name) q) ∙ r))
-        member e g (inr m) = (List·Memᴰ·tail (g m .0), g m .1)
-
-module _ (t : Target) (s : List ℕ) (h : Head) (j : Entry) (rest : List Entry) (f : Format) where
-  abbrev old : Scan
-  old = take h j rest f
-
-  abbrev u : List ℕ
-  u = patched (patches t old s) s
-
-  abbrev rule : Rule
-  rule = trueSize (headIn t u) (entriesOf (headIn t u) u)
-
-  abbrev new : Scan
-  new = record { head = headIn t u; rows = ds64Row j ∷ rest; format = f }
-
-  module _ (k : Take s h j rest) (scanned : scan s ≡ given old) (judge : judged (payload (find FMT (j ∷ rest)) s) (find DATA (j ∷ rest) .size) ≡ given f) where
-    long : length u ≡ length s
-    long = patched-length (patches t old s) s
-
-    stored : Holds t s old u
-    stored = holds t s old (form-whole s h j rest k .0 ∙ omega (arith, form-whole s h j rest k .1)) (fits s h j rest k t f)
-
-    -- each later header by the new rule
-    shown : (e : Entry) → List·Memᴰ e rest → Shown rule u e
-    unfolding ds64At
-    shown e m =
-        let l = laid-lies (rest-laid s h j rest k) m in
-        record {
-          named = number-beside t old s 4 (e .place - 8) (name-beside s h j rest k t f e m) ∙ l .named;
-          sized = go (eqb (e .name) DATA) refl;
-        }
-      where
-        found : e .name ≡ DATA → e ≡ find DATA (j ∷ rest)
-        found q =
-            let p = past-junk s h j rest k DATA (λ r. omega arith) in
-            only DATA rest e (omega (arith, p .0, k .listed .chunked .oneData)) m q ∙ sym (p .1)
-
-        go : (b : Bool) → eqb (e .name) DATA ≡ b → rule (e .place - 8) (e .name) (number 4 (e .place - 4) u) ≡ given (e .size)
-        go true q =
-            let name = eqb-true (e .name) DATA q in
-            let own = ap (λ (x : Entry). number 4 (x .place - 4) u) (found name) ∙ stored .dataField in
-            ap₂ (rule (e .place - 8)) name own
-            ∙ true-data (headIn t u) (entriesOf (headIn t u) u) (e .place - 8) (target-wide t)
-            ∙ ap given (stored .dataSize ∙ sym (ap (λ (x : Entry). x .size) (found name)))
-        go false q =
-            let own = number-beside t old s 4 (e .place - 4) (own-beside s h j rest k t f e m (eqb-false (e .name) DATA q)) in
-            let size = own-size s h j rest k e m in
-            ap (rule (e .place - 8) (e .name)) own
-            ∙ true-own (headIn t u) (entriesOf (headIn t u) u) (e .place - 8) (e .name) (number 4 (e .place - 4) s) (not-ds64 s h j rest k e m) (size .0)
-            ∙ ap given (sym (size .1))
-
-    junk-own : number 4 16 u ≡ number 4 16 s
-    junk-own = number-beside t old s 4 16 (low-beside s h j rest k t f 4 16 (lit≤ tt) (lit≤ tt) (inr (lit≤ tt)))
-
-    -- JUNK's own field is its size, and not all ones
-    junk-size : (number 4 16 s ≡ ONES → ⊥) × (j .size ≡ number 4 16 s)
-    junk-size =
-        let r = junk-row s h j rest k .sized in
-        let n = riff-own h (entriesOf h s) 12 (j .name) (number 4 16 s) (j .size) r (k .riff) in
-        (n, own-true h (entriesOf h s) 12 (j .name) (number 4 16 s) (j .size) r n)
-
-    first-row : Row rule u 12 (ds64Row j)
-    unfolding past
-    first-row =
-        let r = junk-row s h j rest k in
-        record {
-          place = r .place;
-          named = stored .name;
-          sized = ap (rule 12 DS64) junk-own
-              ∙ true-ds64 (headIn t u) (entriesOf (headIn t u) u) (number 4 16 s) (target-wide t) (junk-size .0)
-              ∙ ap given (sym (junk-size .1));
-          ends = rw long (r .ends);
-        }
-
-    laid : Laid rule u 12 (ds64Row j ∷ rest)
-    unfolding past
-    laid = next first-row (relaid rule u long shown (rest-laid s h j rest k))
-
-    opened : Opened u (headIn t u)
-    unfolding ds64At past
-    opened =
-        let o = k .listed .opened in
-        let r = junk-row s h j rest k in
-        let whole = form-whole s h j rest k in
-        let size : formSize (headIn t u) (number 4 4 u) ≡ length s - 8 = ap (formSize (headIn t u)) (stored .formField) ∙ form-ones (headIn t u) ∙ stored .formSize in
-        record {
-          long = rw long (o .long);
-          named = stored .formName ∙ target-named t;
-          wave = number-beside t old s 4 8 (low-beside s h j rest k t f 4 8 (lit≤ tt) (lit≤ tt) (inl (lit≤ tt))) ∙ o .wave;
-          head = head-wide (targetForm t) u (target-wide t)
-              (rules-ds64 (length u) (number 4 12 u) (number 4 16 u) (number 4 44 u)
-              (record {
-                named = stored .name;
-                sized = λ p. junk-size .0 (sym junk-own ∙ p);
-                holds = omega (arith, stored .entries, junk-own, junk-size .1, k .holds);
-                few = omega (arith, stored .entries);
-                ends = omega (arith, junk-own, junk-size .1, r .ends, r .place, long);
-              }));
-          whole = omega (arith, size, long, o .long);
-          least = omega (arith, size, o .least, whole .0, whole .1);
-        }
-
-    -- a chunk other than fact keeps its payload
-    kept : (e : Entry) → List·Memᴰ e rest → (e .name ≡ FACT → ⊥) → payload e u ≡ payload e s
-    unfolding payload
-    kept e m n = field-beside t old s (e .size) (e .place) (payload-beside s h j rest k t f e m n)
-
-    same-find : (name : ℕ) → (JUNK ≡ name → ⊥) → (DS64 ≡ name → ⊥) → find name (ds64Row j ∷ rest) ≡ find name (j ∷ rest)
-    same-find name p q = renamed-same name j rest (k .junk) p q .1
-
-    same-data : find DATA (ds64Row j ∷ rest) ≡ find DATA (j ∷ rest)
-    same-data = same-find DATA (λ p. omega arith) (λ p. omega arith)
-
-    audio : payload (find DATA (ds64Row j ∷ rest)) u ≡ payload (find DATA (j ∷ rest)) s
-    audio =
-        let d = data-in s h j rest k in
-        ap (λ (e : Entry). payload e u) same-data ∙ kept (find DATA (j ∷ rest)) (d .0) (λ p. omega (arith, d .1))
-
-    fmt-kept : payload (find FMT (ds64Row j ∷ rest)) u ≡ payload (find FMT (j ∷ rest)) s
-    fmt-kept =
-        let m = fmt-in s h j rest k in
-        ap (λ (e : Entry). payload e u) (same-find FMT (λ p. omega arith) (λ p. omega arith))
-        ∙ kept (find FMT (j ∷ rest)) (m .0) (λ p. omega (arith, m .1))
-
-    accepted : scan u ≡ given new
-    accepted =
-        scanned-scan u new
-        (record {
-          listed = record {
-            opened = opened;
-            laid = laid;
-            few = k .listed .few;
-            chunked = renamed-chunked j rest (k .junk) (k .listed .chunked);
-          };
-          format = ap₂ judged fmt-kept (ap (λ (e : Entry). e .size) same-data) ∙ judge;
-        })
-
-    -- ---- the sample count
-
-    same-count : count FACT (ds64Row j ∷ rest) ≡ count FACT (j ∷ rest)
-    same-count = renamed-same FACT j rest (k .junk) (λ p. omega arith) (λ p. omega arith) .0
-
-    same-fact : find FACT (ds64Row j ∷ rest) ≡ find FACT (j ∷ rest)
-    same-fact = same-find FACT (λ p. omega arith) (λ p. omega arith)
-
-    abbrev factNow : ℕ
-    factNow = number 4 (find FACT (j ∷ rest) .place) u
-
-    abbrev factThen : ℕ
-    factThen = number 4 (find FACT (j ∷ rest) .place) s
-
-    count-same : (count FACT (j ∷ rest) ≡ 0 → ⊥)
-        → factCount (targetForm t) (ds64At u .third) (number 4 (find FACT (ds64Row j ∷ rest) .place) u) ≡ factThen
-    unfolding ds64At targetForm
-    count-same n =
-        ap (λ (e : Entry). factCount (targetForm t) (number 8 36 u) (number 4 (e .place) u)) same-fact
-        ∙ go t refl
-      where
-        has : hasFact old ≡ true
-        has = fact-has s h j rest k f n
-
-        go : (x : Target) → t ≡ x → factCount (targetForm x) (number 8 36 u) factNow ≡ factThen
-        go target.Rf64 p =
-            fact-third (number 8 36 u) factNow (stored .fact p has)
-            ∙ stored .third
-            ∙ ap (λ (x : Target). thirdFor x old s) p
-            ∙ third-fact old s has
-        go target.Bw64 p =
-            fact-bw64 (number 8 36 u) factNow
-            ∙ number-beside t old s 4 (find FACT (j ∷ rest) .place)
-            (subst (λ (x : Target). Beside 4 (find FACT (j ∷ rest) .place) (changed x old)) (sym p) (fact-kept s h j rest k f n))
-
-    samples-same : samplesOf u ≡ samplesOf s
-    samples-same = samples-given u new accepted ∙ go (eqb (count FACT (j ∷ rest)) 0) refl ∙ sym (samples-given s old scanned)
-      where
-        go : (b : Bool) → eqb (count FACT (j ∷ rest)) 0 ≡ b → samplesIn new u ≡ samplesIn old s
-        go true e =
-            let z = eqb-true (count FACT (j ∷ rest)) 0 e in
-            samples-none new u (same-count ∙ z) ∙ sym (samples-none old s z)
-        go false e =
-            let n = eqb-false (count FACT (j ∷ rest)) 0 e in
-            samples-fact new u (λ z. n (sym same-count ∙ z))
-            ∙ ap samples.Count (count-same n ∙ sym (ap (λ (x : Form). factCount x (h .ds64 .third) factThen) (k .riff) ∙ fact-riff (h .ds64 .third) factThen))
-            ∙ sym (samples-fact old s n)
-
-    -- ---- the 32-bit walk
-
-    -- no field ahead of data is all ones
-    sized : (e : Entry) → List·Memᴰ e (ds64Row j ∷ rest) → (e .name ≡ DATA → ⊥) → ownField u e ≡ ONES → ⊥
-    unfolding ownField
-    sized e m n = go (List·Memᴰ·cases-cons m)
-      where
-        go : (e ≡ ds64Row j) ⊎ List·Memᴰ e rest → ownField u e ≡ ONES → ⊥
-        go (inl q) o =
-            let at : e .place - 4 ≡ 16 = omega (arith, ap (λ (x : Entry). x .place) q, junk-row s h j rest k .place) in
-            junk-size .0 (sym junk-own ∙ sym (ap (λ (x : ℕ). number 4 x u) at) ∙ o)
-        go (inr l) o =
-            own-size s h j rest k e l .0
-            (sym (number-beside t old s 4 (e .place - 4) (own-beside s h j rest k t f e l n)) ∙ o)
-
-    stops : walk32 u ≡ record { rows = aheadOf DATA (ds64Row j ∷ rest); end = Refused NoSize }
-    unfolding Sized ownField
-    stops =
-        let p = split DATA (ds64Row j ∷ rest) (omega (arith, renamed-chunked j rest (k .junk) (k .listed .chunked) .oneData)) in
-        first-half u new accepted .stops (aheadOf DATA (ds64Row j ∷ rest)) (find DATA (ds64Row j ∷ rest)) (p .behind) (p .is)
-        (λ e m. sized e (p .others e m .0) (p .others e m .1))
-        (ap (λ (e : Entry). number 4 (e .place - 4) u) same-data ∙ stored .dataField)
-
-    pub upgraded-take : Upgraded t s old u
-    unfolding renamed
-    upgraded-take =
-        record {
-          bytes = refl;
-          long = long;
-          fields = stored;
-          others = byte-beside t old s;
-          again = new;
-          accepted = accepted;
-          rows = refl;
-          form = refl;
-          format = refl;
-          audio = audio;
-          samples = samples-same;
-          walk = stops;
-        }
-
--- ---- success and refusal
-
-reserved-true : (rows : List Entry) → reserved rows ≡ true → Reserved rows
-unfolding reserved Reserved
-reserved-true [] e = true-false false e refl
-reserved-true (x ∷ xs) e =
-    let c = and-true (eqb (x .name) JUNK) (leb 28 (x .size)) e in
-    (eqb-true (x .name) JUNK (c .0), leb-true 28 (x .size) (c .1))
-
-true-reserved : (rows : List Entry) → Reserved rows → reserved rows ≡ true
-unfolding reserved Reserved
-true-reserved [] r = absurd r
-true-reserved (x ∷ xs) r = rw (eq-eqb (x .name) JUNK (r .0), le-leb 28 (x .size) (r .1))
-
-module _ (t : Target) (s : List ℕ) (a : Scan) (e : scan s ≡ given a) (riff : a .head .form ≡ Riff) where
-  narrow : not (isWide (a .head .form)) ≡ true
-  unfolding isWide
-  narrow = rw riff
-
-  judged-so : upgraded t s ≡ check (reserved (a .rows)) NoReserve (given (patched (patches t a s) s))
-  unfolding upgraded
-  judged-so = andThen-at (scan s) _ a e ∙ check-true (not (isWide (a .head .form))) _ _ narrow
-
-  success : reserved (a .rows) ≡ true → upgraded t s ≡ given (patched (patches t a s) s)
-  success r = judged-so ∙ check-true (reserved (a .rows)) _ _ r
-
-  refusal : reserved (a .rows) ≡ false → upgraded t s ≡ refused NoReserve
-  refusal r = judged-so ∙ check-false (reserved (a .rows)) _ _ r
-
-  -- a success has a reserve, and its bytes are the rule's
-  succeeded : (u : List ℕ) → upgraded t s ≡ given u → (reserved (a .rows) ≡ true) × (patched (patches t a s) s ≡ u)
-  succeeded u p =
-      let c = check-given (reserved (a .rows)) NoReserve (given (patched (patches t a s) s)) u (sym judged-so ∙ p) in
-      (c .0, given-inj _ _ (c .1))
-
-upgraded-so : (t : Target) (s : List ℕ) (h : Head) (rows : List Entry) (f : Format) → Bytes s
+-- a take is a table whose first chunk is the reserve
+upgraded-take : (t : Target) (s : List ℕ) (h : Head) (rows : List Entry) (f : Format) → Bytes s
     → scan s ≡ given (record { head = h; rows = rows; format = f }) → h .form ≡ Riff → Reserved rows
-    → Upgraded t s (record { head = h; rows = rows; format = f }) (patched (patches t (record { head = h; rows = rows; format = f }) s) s)
+    → Upgraded t s (record { head = h; rows = rows; format = f })
+    (patched (patches t (record { head = h; rows = rows; format = f }) s) s)
 unfolding Reserved
-upgraded-so t s h [] f bytes e riff r = absurd r
-upgraded-so t s h (j ∷ rest) f bytes e riff r =
+upgraded-take t s h [] f bytes e riff r = absurd r
+upgraded-take t s h (j ∷ rest) f bytes e riff r =
     let c = scan-scanned s (take h j rest f) e in
-    upgraded-take t s h j rest f (record { bytes = bytes; riff = riff; listed = c .listed; junk = r .0; holds = r .1 }) e (c .format)
+    let k : Take s h j rest = record { bytes = bytes; riff = riff; listed = c .listed; junk = r .0; holds = r .1 } in
+    take-upgraded t s h j rest f k e (c .format)
+
+riff-narrow : (f : Form) → f ≡ Riff → isWide f ≡ false
+unfolding isWide
+riff-narrow f e = rw e
 
 -- Demand 3, second half.
 pub second-half : (t : Target) (s : List ℕ) (a : Scan) → Bytes s → scan s ≡ given a → a .head .form ≡ Riff → SecondHalf t s a
 second-half t s a bytes e riff =
+    let w = riff-narrow (a .head .form) riff in
     record {
       succeeds = (
-        (λ p. reserved-true (a .rows) (succeeded t s a e riff (p .0) (p .1) .0)),
-        (λ r. (patched (patches t a s) s, success t s a e riff (true-reserved (a .rows) r))),
+        (λ p. reserved-true (a .rows) (upgrade-succeeded t s a e w (p .0) (p .1) .0)),
+        (λ r. (patched (patches t a s) s, upgrade-given t s a e w (true-reserved (a .rows) r))),
       );
-      otherwise = λ n. refusal t s a e riff (not-reserved (reserved (a .rows)) refl n);
+      otherwise = λ n. upgrade-unreserved t s a e w (not-reserved (a .rows) n);
       after = λ u p.
-          let c = succeeded t s a e riff u p in
-          subst (Upgraded t s a) (c .1) (upgraded-so t s (a .head) (a .rows) (a .format) bytes e riff (reserved-true (a .rows) (c .0)));
+          let c = upgrade-succeeded t s a e w u p in
+          let r = reserved-true (a .rows) (c .0) in
+          subst (Upgraded t s a) (c .1) (upgraded-take t s (a .head) (a .rows) (a .format) bytes e riff r);
     }
-  where
-    not-reserved : (b : Bool) → reserved (a .rows) ≡ b → (Reserved (a .rows) → ⊥) → reserved (a .rows) ≡ false
-    not-reserved true q n = absurd (n (reserved-true (a .rows) q))
-    not-reserved false q n = q
 
 -- Demand 3, whole.
 pub demand-3 : Demand3
