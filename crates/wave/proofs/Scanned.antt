@@ -53,7 +53,8 @@ good-chunked rows e =
       bext = leb-true (count BEXT rows) 1 (c4 .0);
       chna = leb-true (count CHNA rows) 1 (c5 .0);
       fact = leb-true (count FACT rows) 1 (c6 .0);
-      factHolds = λ k. leb-true 4 (find FACT rows .size) (or-false (eqb (count FACT rows) 0) _ (c7 .0) (ne-eqb (count FACT rows) 0 k));
+      factHolds = λ k.
+          leb-true 4 (find FACT rows .size) (or-false (eqb (count FACT rows) 0) _ (c7 .0) (ne-eqb (count FACT rows) 0 k));
     }
 
 pub chunked-good : (rows : List Entry) → Chunked rows → chunksGood rows ≡ true
@@ -66,7 +67,8 @@ chunked-good rows c =
       le-leb (count BEXT rows) 1 (c .bext),
       le-leb (count CHNA rows) 1 (c .chna),
       le-leb (count FACT rows) 1 (c .fact),
-      or-true (eqb (count FACT rows) 0) (leb 4 (find FACT rows .size)) (λ e. le-leb 4 (find FACT rows .size) (c .factHolds (eqb-false (count FACT rows) 0 e))),
+      or-true (eqb (count FACT rows) 0) (leb 4 (find FACT rows .size))
+          (λ e. le-leb 4 (find FACT rows .size) (c .factHolds (eqb-false (count FACT rows) 0 e))),
     )
 
 -- ---- the listing
@@ -123,7 +125,8 @@ scan-scanned s a e =
     let c2 = andThen-given (judged (payload (find FMT (c1 .0 .rows)) s) (find DATA (c1 .0 .rows) .size)) _ a (c1 .2) in
     gather (c1 .0) (c2 .0) (c1 .1) (c2 .1) (given-inj _ _ (c2 .2))
   where
-    gather : (l : Listing) (f : Format) → listing s ≡ given l → judged (payload (find FMT (l .rows)) s) (find DATA (l .rows) .size) ≡ given f
+    gather : (l : Listing) (f : Format) → listing s ≡ given l
+        → judged (payload (find FMT (l .rows)) s) (find DATA (l .rows) .size) ≡ given f
         → record { head = l .head; rows = l .rows; format = f } ≡ a → Scanned s a
     gather l f p q is = subst (Scanned s) is (record { listed = listing-listed s l p; format = q })
 

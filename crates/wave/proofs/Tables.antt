@@ -37,14 +37,16 @@ pub tables : (s : List ℕ) (a : Scan) → scan s ≡ given a → GoodTable s a
 unfolding ownField
 tables s a e =
     let l = scan-scanned s a e .listed in
-    let rule = trueSize (a .head) (entriesOf (a .head) s) in
+    let ks = entriesOf (a .head) s in
+    let rule = trueSize (a .head) ks in
     record {
       most = l .few;
       endToEnd = laid-ends (l .laid);
       named = λ x m. sym (laid-lies (l .laid) m .named);
       inside = λ x m. (laid-lies (l .laid) m .after, laid-lies (l .laid) m .ends);
       apart = λ xs x ys h. laid-later xs x ys (subst (Laid rule s 12) h (l .laid));
-      own = λ x m. own-true (a .head) (entriesOf (a .head) s) (x .place - 8) (x .name) (ownField s x) (x .size) (laid-lies (l .laid) m .sized);
+      own = λ x m.
+          own-true (a .head) ks (x .place - 8) (x .name) (ownField s x) (x .size) (laid-lies (l .laid) m .sized);
       oneFmt = l .chunked .oneFmt;
       oneData = l .chunked .oneData;
       fmtFirst = l .chunked .fmtFirst;
@@ -53,6 +55,7 @@ tables s a e =
           let f = laid-first (a .rows) (l .laid) (omega arith) in
           (f .0, f .1, f .2, f .3 ∙ r .named, f .4);
       ds64 = λ x m h.
-          let c = ds64-first (a .head) (entriesOf (a .head) s) (x .place - 8) (x .name) (ownField s x) (x .size) (laid-lies (l .laid) m .sized) h in
-          (c .0, omega (arith, c .1, laid-lies (l .laid) m .after));
+          let r = laid-lies (l .laid) m in
+          let c = ds64-first (a .head) ks (x .place - 8) (x .name) (ownField s x) (x .size) (r .sized) h in
+          (c .0, omega (arith, c .1, r .after));
     }
