@@ -1,4 +1,12 @@
 // The fmt record: how the audio's samples are laid out (000 A.2).
+//
+// A payload has 16, 18 or 40 bytes: tag 2, channels 2, rate 4, bytes a second 4, block 2, bits 2; then an extra length 2;
+// then valid bits 2, channel mask 4, subformat 16.
+use chunk::Refusal;
+ghost use mathlib.Core.Path.{_≡_};
+ghost use Prim.Native.Nat.{_≤_, _<_};
+ghost use lib.ListN.{length};
+ghost use Rattle.fmt.specs.Formats.{Fields, sizeGood, bitsGood, samplesGood, validGood, recordGood, extraGood, formatIn, readAs};
 
 // A format record, which keeps the length of its payload.
 pub struct Format {
@@ -16,4 +24,134 @@ pub struct Format {
     // Valid bits of a sample and the channel mask; 0 unless the size is 40.
     pub valid: u64,
     pub mask: u64,
+}
+
+// What a reader answers.
+pub enum Reading {
+    Record(Format),
+    // 11: a rule of fmt is broken.
+    Refused(Refusal),
+}
+
+// The lengths that a tag allows.
+fn size_good(tag: u64, size: u64) -> bool
+    ensures { λ r. ⌜ r ≡ sizeGood tag size ⌝ }
+{
+    match tag {
+        1 => size == 16 || size == 18,
+        0xfffe => size == 40,
+        _ => false,
+    }
+}
+
+// The bits that a sample may have.
+fn bits_good(bits: u64) -> bool
+    ensures { λ r. ⌜ r ≡ bitsGood bits ⌝ }
+{
+    match bits {
+        8 | 16 | 24 | 32 => true,
+        _ => false,
+    }
+}
+
+// Channels and rate are at least 1, and a block is one sample of each channel.
+fn samples_good(channels: u64, rate: u64, block: u64, bits: u64) -> bool
+    requires { ⌜ channels < 65536 ⌝ }
+    ensures { λ r. ⌜ r ≡ samplesGood channels rate block bits ⌝ }
+{
+    if channels < 1 {
+        return false;
+    }
+    if rate < 1 {
+        return false;
+    }
+    if !bits_good(bits) {
+        return false;
+    }
+    block == channels * bits / 8
+}
+
+// Valid bits lie from 1 to bits; a record without them has zeros.
+fn valid_good(size: u64, bits: u64, valid: u64, mask: u64) -> bool
+    ensures { λ r. ⌜ r ≡ validGood size bits valid mask ⌝ }
+{
+    if size == 40 {
+        1 <= valid && valid <= bits
+    } else {
+        valid == 0 && mask == 0
+    }
+}
+
+// The rules that a record shows.
+fn record_good(format: Format) -> bool
+    requires { ⌜ format .channels < 65536 ⌝ }
+    ensures { λ r. ⌜ r ≡ recordGood format ⌝ }
+{
+    if !size_good(format.tag, format.size) {
+        return false;
+    }
+    if !samples_good(format.channels, format.rate, format.block, format.bits) {
+        return false;
+    }
+    valid_good(format.size, format.bits, format.valid, format.mask)
+}
+
+// The rules of the bytes that a record does not keep: the extra length and the subformat.
+fn extra_good(payload: &[u8]) -> bool
+    ensures { λ r. ⌜ r ≡ extraGood (now (payload .entry)) ⌝ }
+{
+    if payload.len() == 18 {
+        return le::read2(payload, 16) == 0;
+    }
+    if payload.len() != 40 {
+        return true;
+    }
+    if le::read2(payload, 16) != 22 {
+        return false;
+    }
+    if le::read8(payload, 24) != 0x0010_0000_0000_0001 {
+        return false;
+    }
+    le::read8(payload, 32) == 0x719b_3800_aa00_0080
+}
+
+// The fields of a payload, judged by nothing.
+fn fields(payload: &[u8]) -> Format
+    requires { ⌜ 16 ≤ length (now payload) ⌝ }
+    ensures { λ r. ⌜ Fields (now (payload .entry)) r ⌝ }
+{
+    let mut valid = 0;
+    let mut mask = 0;
+    if payload.len() == 40 {
+        valid = le::read2(payload, 18);
+        mask = le::read4(payload, 20);
+    }
+    Format {
+        size: payload.len() as u64,
+        tag: le::read2(payload, 0),
+        channels: le::read2(payload, 2),
+        rate: le::read4(payload, 4),
+        byterate: le::read4(payload, 8),
+        block: le::read2(payload, 12),
+        bits: le::read2(payload, 14),
+        valid,
+        mask,
+    }
+}
+
+// The record of a payload, which may be any bytes at all.
+pub fn read(payload: &[u8]) -> Reading
+    ensures { λ r. ⌜ r ≡ readAs (formatIn (now (payload .entry))) ⌝ }
+{
+    if payload.len() < 16 {
+        return Reading::Refused(Refusal::BadFmt);
+    }
+    if !extra_good(payload) {
+        return Reading::Refused(Refusal::BadFmt);
+    }
+    let record = fields(payload);
+    if !record_good(record) {
+        return Reading::Refused(Refusal::BadFmt);
+    }
+    Reading::Record(record)
 }

@@ -146,6 +146,13 @@ unfolding ds64At
 ds64-whole s h =
     (number-split 4 4 20 s (omega arith), number-split 4 4 28 s (omega arith), number-split 4 4 36 s (omega arith))
 
+pub ds64-broken : (len name size count : ℕ) → (Ds64Rules len name size count → ⊥) → ds64Good len name size count ≡ false
+ds64-broken len name size count k = go (ds64Good len name size count) refl
+  where
+    go : (b : Bool) → ds64Good len name size count ≡ b → ds64Good len name size count ≡ false
+    go true e = absurd (k (ds64-rules len name size count e))
+    go false e = e
+
 -- ---- both directions
 
 pub head-opened : (s : List ℕ) (h : Head) → headOf s ≡ given h → Opened s h
