@@ -1,9 +1,8 @@
 -- The checks of a definition, one after the other: a link of the chain that answers is inverted by one law, and built by
 -- one. A caller cites these and never opens the combinators.
 -- Assumes nothing.
-use mathlib.Core.Path.{_≡_, refl, sym, _∙_, ap}
-use mathlib.Core.Bool.{Bool, true, false, not, _&&_, _||_}
-use mathlib.Core.List.{List, [], _∷_}
+use mathlib.Core.Path.{_≡_, refl}
+use mathlib.Core.Bool.{Bool, true, false, _&&_, _||_}
 use Prim.Native.Nat.{ℕ}
 use native.Mathlib.Omega.{arith}
 use Rattle.le.specs.Choice.{pick}
@@ -65,6 +64,10 @@ pub andThen-at : {A B : Type 0} (x : Answer A) (k : A → Answer B) (a : A) → 
 unfolding andThen
 andThen-at x k a e = rw e
 
+pub andThen-refused : {A B : Type 0} (x : Answer A) (k : A → Answer B) (r : Refusal) → x ≡ refused r → andThen x k ≡ refused r
+unfolding andThen
+andThen-refused x k r e = rw e
+
 -- ---- a rule of `every`, and the rules after it
 
 pub rule-and : (b c : Bool) → pick b c false ≡ true → (b ≡ true) × (c ≡ true)
@@ -85,7 +88,3 @@ or-true false b h = h refl
 pub or-false : (a b : Bool) → a || b ≡ true → a ≡ false → b ≡ true
 or-false true b e f = absurd (true-false true refl f)
 or-false false b e f = e
-
-pub andThen-refused : {A B : Type 0} (x : Answer A) (k : A → Answer B) (r : Refusal) → x ≡ refused r → andThen x k ≡ refused r
-unfolding andThen
-andThen-refused x k r e = rw e

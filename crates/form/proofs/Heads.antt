@@ -3,21 +3,20 @@
 -- Assumes nothing.
 use mathlib.Core.Path.{_≡_, refl, sym, _∙_, ap, subst}
 use mathlib.Core.Bool.{Bool, true, false, not, _||_}
-use mathlib.Core.List.{List, [], _∷_}
-use Prim.Native.Nat.{ℕ, _+_, _-_, _*_, _%_, _≤_, _<_}
+use mathlib.Core.List.{List}
+use Prim.Native.Nat.{ℕ, _+_, _*_, _%_, _≤_}
 use native.Mathlib.Omega.{arith}
 use lib.ListN.{length}
 use lib.Dec.{eqb, leb}
 use borrow.Author.Tests.{le-leb, leb-true, eq-eqb, ne-eqb, eqb-true, eqb-false, not-true}
 use Rattle.le.specs.Number.{number}
-use Rattle.le.specs.Choice.{pick, every}
-use Rattle.chunk.specs.declared.Refusal.the-variants.{Short, NotWave, Unfinished, BadDs64, FormSize}
-use Rattle.chunk.specs.Refusals.{Answer, refused, given, check, andThen}
+use Rattle.le.proofs.Laws.{number-split}
+use Rattle.chunk.specs.declared.Refusal.the-variants.{NotWave}
+use Rattle.chunk.specs.Refusals.{Answer, given}
 use Rattle.chunk.specs.Names.{RIFF, RF64, BW64, WAVE, DS64, ONES}
-use Rattle.chunk.proofs.Checks.{picked, true-false, given-inj, refused-given, check-given, check-true, andThen-given, andThen-at, rule-and, or-true, pick-false, pick-true}
+use Rattle.chunk.proofs.Checks.{picked, true-false, given-inj, refused-given, check-given, check-true, andThen-given, andThen-at, rule-and, or-true, pick-false}
 use Rattle.form.specs.declared.Form.{Form}
 use Rattle.form.specs.declared.Form.the-variants.{Riff, Rf64, Bw64}
-use Rattle.form.specs.declared.Ds64.{Ds64}
 use Rattle.form.specs.declared.Head.{Head}
 use Rattle.form.specs.Forms.{nameOf, isWide, formOf, ds64Good, ds64At, noDs64, headAs, formSize, wholeForm, headOf, openFor32}
 
@@ -137,6 +136,15 @@ rules-ds64 len name size count r =
       le-leb count 16 (r .few),
       le-leb (20 + size + size % 2) len (r .ends),
     )
+
+-- each 64-bit number of ds64 is its low half and 2 ^ 32 times its high half
+pub ds64-whole : (s : List ℕ) → 48 ≤ length s
+    → (ds64At s .riff ≡ number 4 20 s + 0x1_0000_0000 * number 4 24 s)
+    × (ds64At s .audio ≡ number 4 28 s + 0x1_0000_0000 * number 4 32 s)
+    × (ds64At s .third ≡ number 4 36 s + 0x1_0000_0000 * number 4 40 s)
+unfolding ds64At
+ds64-whole s h =
+    (number-split 4 4 20 s (omega arith), number-split 4 4 28 s (omega arith), number-split 4 4 36 s (omega arith))
 
 pub ds64-broken : (len name size count : ℕ) → (Ds64Rules len name size count → ⊥) → ds64Good len name size count ≡ false
 ds64-broken len name size count k = go (ds64Good len name size count) refl

@@ -1,52 +1,48 @@
--- The true size of a chunk, one law an outcome: a field that is not all ones is the size; RIFF knows no other; in the
--- 64-bit forms an all-ones field on data is ds64's data size, and ds64 itself stands at byte 12.
+-- The true size of a chunk: what a known size tells, and which sizes are known. A field that is not all ones is the size;
+-- RIFF knows no other; in the 64-bit forms an all-ones field on data is ds64's data size, and ds64 itself stands at byte 12.
 -- Assumes nothing.
-use mathlib.Core.Path.{_≡_, refl, sym, _∙_, ap, subst}
+use mathlib.Core.Path.{_≡_, refl, sym, _∙_, ap}
 use mathlib.Core.Bool.{Bool, true, false, not, _&&_}
-use mathlib.Core.List.{List, [], _∷_}
-use Prim.Native.Nat.{ℕ, _+_, _≤_}
+use mathlib.Core.List.{List}
+use Prim.Native.Nat.{ℕ}
 use native.Mathlib.Omega.{arith}
-use lib.ListN.{drop}
 use lib.Dec.{eqb}
-use borrow.Author.Tests.{eq-eqb, ne-eqb, eqb-true, eqb-false, not-true}
+use borrow.Author.Tests.{eq-eqb, ne-eqb, eqb-true, not-true}
 use Rattle.le.specs.Choice.{pick}
 use Rattle.chunk.specs.declared.Refusal.the-variants.{BadDs64, NoSize}
-use Rattle.chunk.specs.Refusals.{Answer, refused, given, check}
+use Rattle.chunk.specs.Refusals.{given}
 use Rattle.chunk.specs.Names.{DS64, DATA, ONES}
-use Rattle.chunk.proofs.Checks.{given-inj, refused-given, true-false, check-given, check-true, pick-true, pick-false}
+use Rattle.chunk.proofs.Checks.{given-inj, refused-given, true-false, check-given, pick-true, pick-false}
 use Rattle.form.specs.declared.Form.{Form}
 use Rattle.form.specs.declared.Form.the-variants.{Riff, Rf64, Bw64}
-use Rattle.form.specs.declared.Ds64.{Ds64}
 use Rattle.form.specs.declared.Head.{Head}
-use Rattle.form.specs.Forms.{isWide, noDs64}
-use Rattle.form.specs.Sizes.{Known, entriesIn, entriesOf, onesSize, trueSize}
+use Rattle.form.specs.Forms.{isWide}
+use Rattle.form.specs.Sizes.{Known, onesSize, strayDs64, trueSize}
+use Rattle.form.proofs.Known.{true-field, true-ones}
 
--- ---- the test on ds64's place
+-- ---- ds64's place
 
-in-place : (d w x : Bool) → not (d && not (w && x)) ≡ true → d ≡ true → (w ≡ true) × (x ≡ true)
-in-place true true x e p = (refl, not-not x e)
-  where
-    not-not : (b : Bool) → not (not b) ≡ true → b ≡ true
-    not-not true q = refl
-    not-not false q = q
-in-place true false x e p = absurd (true-false false e refl)
+in-place : (d w x : Bool) → d && not (w && x) ≡ false → d ≡ true → (w ≡ true) × (x ≡ true)
+in-place true true true e p = (refl, refl)
+in-place true true false e p = absurd (true-false true refl e)
+in-place true false x e p = absurd (true-false true refl e)
 in-place false w x e p = absurd (true-false false p refl)
 
-abbrev ds64Placed : Head → ℕ → ℕ → Bool
-ds64Placed h at name = not (eqb name DS64 && not (isWide (h .form) && eqb at 12))
+other-placed : (f : Form) (at name : ℕ) → (name ≡ DS64 → ⊥) → strayDs64 f at name ≡ false
+unfolding strayDs64
+other-placed f at name k = rw (ne-eqb name DS64 k)
 
-other-placed : (h : Head) (at name : ℕ) → (name ≡ DS64 → ⊥) → ds64Placed h at name ≡ true
-other-placed h at name k = rw (ne-eqb name DS64 k)
-
-first-placed : (h : Head) → isWide (h .form) ≡ true → ds64Placed h 12 DS64 ≡ true
-first-placed h w = rw w
+first-placed : (f : Form) → isWide f ≡ true → strayDs64 f 12 DS64 ≡ false
+unfolding strayDs64
+first-placed f w = rw w
 
 -- ---- what a known size tells
 
 module _ (h : Head) (ks : List Known) (at name own n : ℕ) (e : trueSize h ks at name own ≡ given n) where
-  allowed : (ds64Placed h at name ≡ true) × (pick (eqb own ONES) (onesSize (h .form) (h .ds64) ks name) (given own) ≡ given n)
+  allowed : (not (strayDs64 (h .form) at name) ≡ true)
+      × (pick (eqb own ONES) (onesSize (h .form) (h .ds64) ks name) (given own) ≡ given n)
   unfolding trueSize
-  allowed = check-given (ds64Placed h at name) BadDs64 _ n e
+  allowed = check-given (not (strayDs64 (h .form) at name)) BadDs64 _ n e
 
   -- "A size field that is not all ones is the true size"
   pub own-true : (own ≡ ONES → ⊥) → n ≡ own
@@ -54,8 +50,9 @@ module _ (h : Head) (ks : List Known) (at name own n : ℕ) (e : trueSize h ks a
 
   -- "A ds64 anywhere else, or in RIFF, is refused"
   pub ds64-first : name ≡ DS64 → (isWide (h .form) ≡ true) × (at ≡ 12)
+  unfolding strayDs64
   ds64-first k =
-      let c = in-place (eqb name DS64) (isWide (h .form)) (eqb at 12) (allowed .0) (eq-eqb name DS64 k) in
+      let c = in-place (eqb name DS64) (isWide (h .form)) (eqb at 12) (not-true _ (allowed .0)) (eq-eqb name DS64 k) in
       (c .0, eqb-true at 12 (c .1))
 
   -- in RIFF no field is all ones
@@ -72,29 +69,23 @@ module _ (h : Head) (ks : List Known) (at name own n : ℕ) (e : trueSize h ks a
 -- whatever ds64 says: "An entry for a size that isn't all ones has no effect"
 pub true-own : (h : Head) (ks : List Known) (at name own : ℕ) → (name ≡ DS64 → ⊥) → (own ≡ ONES → ⊥)
     → trueSize h ks at name own ≡ given own
-unfolding trueSize
-true-own h ks at name own k l =
-    check-true (ds64Placed h at name) _ _ (other-placed h at name k) ∙ pick-false (eqb own ONES) _ _ (ne-eqb own ONES l)
+true-own h ks at name own k l = true-field h ks at name own (other-placed (h .form) at name k) l
+
+-- so a data chunk with a size of its own keeps it
+pub data-own : (h : Head) (ks : List Known) (at own : ℕ) → (own ≡ ONES → ⊥) → trueSize h ks at DATA own ≡ given own
+data-own h ks at own l = true-own h ks at DATA own (λ p. omega arith) l
 
 pub true-ds64 : (h : Head) (ks : List Known) (own : ℕ) → isWide (h .form) ≡ true → (own ≡ ONES → ⊥)
     → trueSize h ks 12 DS64 own ≡ given own
-unfolding trueSize
-true-ds64 h ks own w l =
-    check-true (ds64Placed h 12 DS64) _ _ (first-placed h w) ∙ pick-false (eqb own ONES) _ _ (ne-eqb own ONES l)
+true-ds64 h ks own w l = true-field h ks 12 DS64 own (first-placed (h .form) w) l
 
 -- "on data, the ds64 data size"
 pub true-data : (h : Head) (ks : List Known) (at : ℕ) → isWide (h .form) ≡ true
     → trueSize h ks at DATA ONES ≡ given (h .ds64 .audio)
-unfolding trueSize onesSize isWide
-true-data h ks at w = go (h .form) w
+unfolding onesSize isWide
+true-data h ks at w = true-ones h ks at DATA ONES (other-placed (h .form) at DATA (λ p. omega arith)) refl ∙ go (h .form) w
   where
     go : (f : Form) → isWide f ≡ true → onesSize f (h .ds64) ks DATA ≡ given (h .ds64 .audio)
     go Riff e = absurd (true-false false e refl)
     go Rf64 e = refl
     go Bw64 e = refl
-
--- ---- entries
-
-pub no-entries : (h : Head) (s : List ℕ) → h .ds64 .count ≡ 0 → entriesOf h s ≡ []
-unfolding entriesOf entriesIn
-no-entries h s e = rw e

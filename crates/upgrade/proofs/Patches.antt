@@ -1,26 +1,29 @@
 -- Stores one after the other: a field that lies beside all of them is as it was, and one that no later store touches holds
 -- what was stored. By induction on the list of stores.
 -- Assumes nothing.
-use mathlib.Core.Path.{_≡_, refl, sym, _∙_, ap, subst}
-use mathlib.Core.Logic.{_⊎_, inl, inr}
+use mathlib.Core.Path.{_≡_, refl, sym, _∙_, ap}
+use mathlib.Core.Logic.{inl, inr}
 use mathlib.Core.List.{List, [], _∷_, _++_}
-use Prim.Native.Nat.{ℕ, _+_, _/_, _^_, _≤_, _<_}
+use Prim.Native.Nat.{ℕ, _+_, _^_, _≤_, _<_}
 use native.Mathlib.Omega.{arith}
 use lib.ListN.{length}
 use Rattle.le.specs.Number.{field, number, stored}
 use Rattle.le.proofs.Laws.{stored-length, stored-split, number-stored, field-stored, number-frame}
+use Rattle.upgrade.specs.Demand3.{Off}
 use Rattle.upgrade.specs.Upgrades.{Patch, patch, halves, patched}
 
 -- the n bytes at a place lie beside every one of these stores
 pub data Clear (n at : ℕ) : List Patch → Type 0 where
   none : Clear n at []
-  one : {p : Patch} {ps : List Patch} → (at + n ≤ p .place) ⊎ (p .place + 4 ≤ at) → Clear n at ps → Clear n at (p ∷ ps)
+  one : {p : Patch} {ps : List Patch} → Off n at 4 (p .place) → Clear n at ps → Clear n at (p ∷ ps)
 
 -- a store at k past the bytes, or ahead of them
-pub past : {n at : ℕ} (k : ℕ) {v : ℕ} {ps : List Patch} → at + n ≤ k → Clear n at ps → Clear n at (record { place = k; value = v } ∷ ps)
+pub past : {n at : ℕ} (k : ℕ) {v : ℕ} {ps : List Patch}
+    → at + n ≤ k → Clear n at ps → Clear n at (record { place = k; value = v } ∷ ps)
 past k h c = one (inl h) c
 
-pub ahead : {n at : ℕ} (k : ℕ) {v : ℕ} {ps : List Patch} → k + 4 ≤ at → Clear n at ps → Clear n at (record { place = k; value = v } ∷ ps)
+pub ahead : {n at : ℕ} (k : ℕ) {v : ℕ} {ps : List Patch}
+    → k + 4 ≤ at → Clear n at ps → Clear n at (record { place = k; value = v } ∷ ps)
 ahead k h c = one (inr h) c
 
 pub clear-append : {n at : ℕ} {ps qs : List Patch} → Clear n at ps → Clear n at qs → Clear n at (ps ++ qs)

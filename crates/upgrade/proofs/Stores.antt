@@ -3,26 +3,25 @@
 -- Assumes nothing.
 use mathlib.Core.Path.{_≡_, refl, sym, _∙_, ap, subst}
 use mathlib.Core.Bool.{Bool, true, false}
-use mathlib.Core.Logic.{_⊎_, inl, inr}
+use mathlib.Core.Logic.{inl, inr}
 use mathlib.Core.List.{List, [], _∷_, _++_}
-use Prim.Native.Nat.{ℕ, _+_, _-_, _/_, _^_, _≤_, _<_}
+use Prim.Native.Nat.{ℕ, _+_, _-_, _^_, _≤_, _<_}
 use native.Mathlib.Nat.{add-zero}
 use native.Mathlib.Omega.{arith}
-use lib.ListN.{length, take, drop, getD}
+use lib.ListN.{length, drop, getD}
 use lib.Seq.{getD-take, getD-drop}
 use lib.Dec.{lit<, lit≤}
-use Rattle.le.specs.Number.{field, number, stored}
+use Rattle.le.specs.Number.{field, number}
 use Rattle.le.specs.Choice.{pick}
-use Rattle.chunk.specs.declared.Entry.{Entry}
-use Rattle.chunk.specs.Names.{RF64, BW64, DS64, FACT, DATA, ONES}
-use Rattle.chunk.specs.Tables.{count, find}
+use Rattle.chunk.specs.Names.{DS64, FACT, DATA, ONES}
+use Rattle.chunk.specs.Tables.{find}
 use Rattle.chunk.proofs.Checks.{pick-true}
 use Rattle.form.specs.Forms.{formSize}
 use Rattle.wave.specs.Scans.{Scan}
 use Rattle.upgrade.specs.declared.Target.{Target}
 use Rattle.upgrade.specs.declared.Target.the-variants.{Rf64, Bw64}
 use Rattle.upgrade.specs.Upgrades.{Patch, patch, halves, hasFact, thirdFor, factPatch, targetName, patches, patched}
-use Rattle.upgrade.specs.Demand3.{Span, span, factSpan, changed, Beside, Holds}
+use Rattle.upgrade.specs.Demand3.{Off, span, factSpan, changed, Beside, Holds}
 use Rattle.upgrade.proofs.Patches.{Clear, none, one, past, ahead, clear-append, patched-append, patched-length, field-clear, number-clear, number-patched, number-halves}
 
 -- ---- beside the named fields
@@ -38,9 +37,9 @@ fact-clear n at Rf64 a h = go (hasFact a) h
     go false k = none
 
 -- a store inside a run that the bytes lie beside
-inside : (n at from size k : ℕ) → from ≤ k → k + 4 ≤ from + size → (at + n ≤ from) ⊎ (from + size ≤ at) → (at + n ≤ k) ⊎ (k + 4 ≤ at)
-inside n at from size k h g (inl e) = inl (omega arith)
-inside n at from size k h g (inr e) = inr (omega arith)
+inside : (n at m from k : ℕ) → from ≤ k → k + 4 ≤ from + m → Off n at m from → Off n at 4 k
+inside n at m from k h g (inl e) = inl (omega arith)
+inside n at m from k h g (inr e) = inr (omega arith)
 
 beside-clear : (n at : ℕ) (t : Target) (a : Scan) (s : List ℕ) → Beside n at (changed t a) → Clear n at (patches t a s)
 unfolding changed Beside span patches halves patch
@@ -58,8 +57,8 @@ beside-clear n at t a s h =
     (one (h .1 .0)
     (one (h .0) none)))))))))))
   where
-    block : (k : ℕ) → 20 ≤ k → k + 4 ≤ 48 → (at + n ≤ k) ⊎ (k + 4 ≤ at)
-    block k p q = inside n at 20 28 k p q (h .1 .1 .1 .0)
+    block : (k : ℕ) → 20 ≤ k → k + 4 ≤ 48 → Off n at 4 k
+    block k p q = inside n at 28 20 k p q (h .1 .1 .1 .0)
 
 byte-at : (i : ℕ) (l : List ℕ) → getD (field 1 i l) 0 0 ≡ getD l i 0
 unfolding field
@@ -85,8 +84,7 @@ pub record Fits (t : Target) (s : List ℕ) (a : Scan) : Type 0 where
   pub dataTo : find DATA (a .rows) .place ≤ length s
   pub factFrom : hasFact a ≡ true → 56 ≤ find FACT (a .rows) .place
   pub factTo : hasFact a ≡ true → find FACT (a .rows) .place + 4 ≤ length s
-  pub factApart : hasFact a ≡ true
-      → (find FACT (a .rows) .place + 4 ≤ find DATA (a .rows) .place - 4) ⊎ (find DATA (a .rows) .place ≤ find FACT (a .rows) .place)
+  pub factApart : hasFact a ≡ true → Off 4 (find FACT (a .rows) .place) 4 (find DATA (a .rows) .place - 4)
   pub formFits : formSize (a .head) (number 4 4 s) < 256 ^ 8
   pub dataFits : find DATA (a .rows) .size < 256 ^ 8
   pub thirdFits : thirdFor t a s < 256 ^ 8
@@ -205,14 +203,12 @@ late-fact s a f e =
     ∙ ap (λ (ps : List Patch). number 4 at (patched ps (patched (early Rf64 s a) s))) (pick-true (hasFact a) _ _ e)
     ∙ number-patched [] at ONES [] (patched (early Rf64 s a) s) (lit< tt) (omega (arith, f .factTo e, patched-length (early Rf64 s a) s)) none
   where
-    clear : (find FACT (a .rows) .place + 4 ≤ find DATA (a .rows) .place - 4) ⊎ (find DATA (a .rows) .place ≤ find FACT (a .rows) .place)
+    clear : Off 4 (find FACT (a .rows) .place) 4 (find DATA (a .rows) .place - 4)
         → Clear 4 (find FACT (a .rows) .place) (late Rf64 s a)
-    clear (inl h) = past (find DATA (a .rows) .place - 4) h (ahead 4 (omega (arith, f .factFrom e)) (ahead 0 (omega (arith, f .factFrom e)) none))
-    clear (inr h) =
-        ahead (find DATA (a .rows) .place - 4) (omega (arith, f .dataFrom))
-        (ahead 4 (omega (arith, f .factFrom e)) (ahead 0 (omega (arith, f .factFrom e)) none))
+    clear h = one h (ahead 4 (omega (arith, f .factFrom e)) (ahead 0 (omega (arith, f .factFrom e)) none))
 
-pub holds : (t : Target) (s : List ℕ) (a : Scan) → formSize (a .head) (number 4 4 s) ≡ length s - 8 → Fits t s a → Holds t s a (patched (patches t a s) s)
+pub holds : (t : Target) (s : List ℕ) (a : Scan) → formSize (a .head) (number 4 4 s) ≡ length s - 8 → Fits t s a
+    → Holds t s a (patched (patches t a s) s)
 holds t s a whole f =
     record {
       formName = ap (number 4 0) (parts t s a) ∙ late-name t s a f;

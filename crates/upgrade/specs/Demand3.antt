@@ -1,24 +1,24 @@
--- The customer's demand 3, second half: the words of the statement, which proofs/Demand3.antt proves of every list of
--- bytes that the scan accepts as RIFF.
-use Prim.Native.Nat.{ℕ, _+_, _-_, _≤_, _<_}
+-- The customer's demand 3: its second half, and both halves as one statement, which proofs/Demand3.antt proves. The first
+-- half stands in the wave crate.
+use Prim.Native.Nat.{ℕ, _+_, _-_, _≤_}
 use mathlib.Core.Path.{_≡_}
 use mathlib.Core.Logic.{_↔_, _⊎_}
-use mathlib.Core.Bool.{Bool, true}
+use mathlib.Core.Bool.{true}
 use mathlib.Core.List.{List, [], _∷_}
 use lib.ListN.{length, getD}
 use lib.Dec.{eqb}
-use Rattle.le.specs.Number.{number}
+use Rattle.le.specs.Number.{Bytes, number}
 use Rattle.le.specs.Choice.{pick}
 use Rattle.chunk.specs.declared.Entry.{Entry}
 use Rattle.chunk.specs.declared.Refusal.the-variants.{NoSize, NoReserve}
 use Rattle.chunk.specs.declared.Verdict.the-variants.{Refused}
-use Rattle.chunk.specs.Refusals.{Answer, refused, given}
+use Rattle.chunk.specs.Refusals.{refused, given}
 use Rattle.chunk.specs.Names.{DS64, JUNK, DATA, FACT, ONES}
 use Rattle.chunk.specs.Tables.{find}
-use Rattle.chunk.specs.Walks.{Walked}
 use Rattle.form.specs.declared.Form as form
 use Rattle.form.specs.declared.Form.the-variants as form-variants
 use Rattle.wave.specs.Scans.{Scan, scan, payload, samplesOf, walk32}
+use Rattle.wave.specs.Demand3.{FirstHalf}
 use Rattle.upgrade.specs.declared.Target.{Target}
 use Rattle.upgrade.specs.declared.Target.the-variants.{Rf64, Bw64}
 use Rattle.upgrade.specs.Upgrades.{hasFact, thirdFor, targetName, patches, patched, upgraded}
@@ -69,10 +69,14 @@ changed t a =
     ∷ span (find DATA (a .rows) .place - 4) 4
     ∷ factSpan t a
 
+-- the n bytes at one place and the m bytes at another have none in common
+abbrev pub Off : ℕ → ℕ → ℕ → ℕ → Type 0
+Off n at m from = (at + n ≤ from) ⊎ (from + m ≤ at)
+
 -- the n bytes at a place lie outside every one of these runs
 unfoldable pub Beside : ℕ → ℕ → List Span → Type 0
 Beside n at [] = Unit {0}
-Beside n at (x ∷ xs) = ((at + n ≤ x .from) ⊎ (x .from + x .size ≤ at)) × Beside n at xs
+Beside n at (x ∷ xs) = Off n at (x .size) (x .from) × Beside n at xs
 
 -- what the changed bytes hold: "The form and data fields become all ones; the 28 bytes hold the true form size, the true
 -- data size, the third number and an entry count of 0"
@@ -118,3 +122,12 @@ pub record SecondHalf (t : Target) (s : List ℕ) (a : Scan) : Type 0 where
   pub otherwise : (Reserved (a .rows) → ⊥) → upgraded t s ≡ refused NoReserve
   -- "After a success .."
   pub after : (u : List ℕ) → upgraded t s ≡ given u → Upgraded t s a u
+
+-- ---- demand 3, whole
+
+pub record Demand3 : Type 0 where
+  -- "Take any file that the scan accepts .. and read it with the plain 32-bit walk"
+  pub first : (s : List ℕ) (a : Scan) → scan s ≡ given a → FirstHalf s a
+  -- "Now take any accepted RIFF file, and RF64 or BW64 as target."
+  pub second : (t : Target) (s : List ℕ) (a : Scan) → Bytes s → scan s ≡ given a → a .head .form ≡ form-variants.Riff
+      → SecondHalf t s a

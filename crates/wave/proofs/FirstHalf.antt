@@ -2,10 +2,10 @@
 -- by both walks; where the own field is not all ones it is the true size by either rule, and where it is the 32-bit walk
 -- stops with 7.
 -- Assumes nothing.
-use mathlib.Core.Path.{_≡_, refl, sym, _∙_, ap, ap₂, subst}
+use mathlib.Core.Path.{_≡_, refl, sym, _∙_, ap}
 use mathlib.Core.Bool.{Bool, true, false}
-use mathlib.Core.List.{List, [], _∷_, _++_, List·Memᴰ, List·Memᴰ·head, List·Memᴰ·tail}
-use Prim.Native.Nat.{ℕ, zero, suc, _+_, _-_, _≤_}
+use mathlib.Core.List.{List, [], _∷_, _++_, List·Memᴰ·head, List·Memᴰ·tail}
+use Prim.Native.Nat.{ℕ, zero, suc, _+_, _≤_}
 use native.Mathlib.Omega.{arith}
 use lib.ListN.{length}
 use lib.Dec.{eqb}
@@ -13,40 +13,48 @@ use borrow.Author.Tests.{eq-eqb, ne-eqb, eqb-true, eqb-false}
 use Rattle.le.specs.Number.{number}
 use Rattle.chunk.specs.declared.Entry.{Entry}
 use Rattle.chunk.specs.declared.Refusal.the-variants.{NoSize}
-use Rattle.chunk.specs.declared.Verdict.{Verdict}
 use Rattle.chunk.specs.declared.Verdict.the-variants.{Accepted, Refused}
-use Rattle.chunk.specs.Refusals.{Answer, refused, given}
+use Rattle.chunk.specs.Refusals.{Answer, given}
 use Rattle.chunk.specs.Names.{ONES}
 use Rattle.chunk.specs.Walks.{Rule, past, Walked, walk, ownSize}
 use Rattle.chunk.proofs.Checks.{pick-true, pick-false}
 use Rattle.chunk.proofs.Laid.{Row, Laid, done, next, row-fits, step-end, step-row, step-refused, walk-stop, walk-chunk, own-ones, own-given}
-use Rattle.form.specs.Forms.{openFor32}
 use Rattle.form.specs.Sizes.{trueSize, entriesOf}
 use Rattle.form.proofs.Heads.{opened-32}
 use Rattle.form.proofs.Sizes.{own-true}
 use Rattle.wave.specs.Scans.{Scan, scan, walkFrom, walk32}
 use Rattle.wave.specs.Demand3.{ownField, ahead, stop, Sized, FirstHalf}
-use Rattle.wave.proofs.Scanned.{Listed, Scanned, scan-scanned}
+use Rattle.wave.proofs.Scanned.{scan-scanned}
 
 -- ---- the rows ahead, and the end
 
-ahead-ones : (s : List ℕ) (e : Entry) (es : List Entry) → ownField s e ≡ ONES → (ahead s (e ∷ es) ≡ []) × (stop s (e ∷ es) ≡ Refused NoSize)
-unfolding ahead stop
-ahead-ones s e es h = (pick-true _ _ _ (eq-eqb (ownField s e) ONES h), pick-true _ _ _ (eq-eqb (ownField s e) ONES h))
+abbrev shown : List ℕ → List Entry → Walked
+shown s rows = record { rows = ahead s rows; end = stop s rows }
 
-ahead-sized : (s : List ℕ) (e : Entry) (es : List Entry) → (ownField s e ≡ ONES → ⊥)
-    → (ahead s (e ∷ es) ≡ e ∷ ahead s es) × (stop s (e ∷ es) ≡ stop s es)
+-- a row put in front of what a walk shows
+abbrev after : Entry → Walked → Walked
+after e w = record { rows = e ∷ w .rows; end = w .end }
+
+shown-ones : (s : List ℕ) (e : Entry) (es : List Entry) → ownField s e ≡ ONES
+    → shown s (e ∷ es) ≡ record { rows = []; end = Refused NoSize }
 unfolding ahead stop
-ahead-sized s e es h = (pick-false _ _ _ (ne-eqb (ownField s e) ONES h), pick-false _ _ _ (ne-eqb (ownField s e) ONES h))
+shown-ones s e es h =
+    let t = eqb (ownField s e) ONES in
+    let q : t ≡ true = eq-eqb (ownField s e) ONES h in
+    λ i. record { rows = pick-true t [] (e ∷ ahead s es) q i; end = pick-true t (Refused NoSize) (stop s es) q i }
+
+shown-sized : (s : List ℕ) (e : Entry) (es : List Entry) → (ownField s e ≡ ONES → ⊥) → shown s (e ∷ es) ≡ after e (shown s es)
+unfolding ahead stop
+shown-sized s e es h =
+    let t = eqb (ownField s e) ONES in
+    let q : t ≡ false = ne-eqb (ownField s e) ONES h in
+    λ i. record { rows = pick-false t [] (e ∷ ahead s es) q i; end = pick-false t (Refused NoSize) (stop s es) q i }
 
 -- ---- the walk over laid rows
 
 -- a rule by which a field that is not all ones is the size
 Plain : Rule → Type 0
 Plain rule = (at name own n : ℕ) → rule at name own ≡ given n → (own ≡ ONES → ⊥) → n ≡ own
-
-abbrev shown : List ℕ → List Entry → Walked
-shown s rows = record { rows = ahead s rows; end = stop s rows }
 
 own-at : {rule : Rule} {s : List ℕ} {at : ℕ} {e : Entry} → Row rule s at e → ownField s e ≡ number 4 (at + 4) s
 unfolding ownField
@@ -57,16 +65,19 @@ row-ones : (rule : Rule) (s : List ℕ) (room at : ℕ) (e : Entry) → Row rule
     → walk ownSize s (suc room) at ≡ record { rows = []; end = Refused NoSize }
 row-ones rule s room at e r h =
     walk-stop ownSize s (suc room) at (Refused NoSize)
-    (step-refused ownSize s room at NoSize (row-fits r) (own-ones at (number 4 at s) (number 4 (at + 4) s) (sym (own-at r) ∙ h)))
+    (step-refused ownSize s room at NoSize (row-fits r)
+    (own-ones at (number 4 at s) (number 4 (at + 4) s) (sym (own-at r) ∙ h)))
 
-row-own : (rule : Rule) → Plain rule → (s : List ℕ) (at : ℕ) (e : Entry) → Row rule s at e → (ownField s e ≡ ONES → ⊥) → Row ownSize s at e
+row-own : (rule : Rule) → Plain rule → (s : List ℕ) (at : ℕ) (e : Entry) → Row rule s at e → (ownField s e ≡ ONES → ⊥)
+    → Row ownSize s at e
 unfolding Plain
 row-own rule plain s at e r h =
-    let k : number 4 (at + 4) s ≡ ONES → ⊥ = λ q. h (own-at r ∙ q) in
+    let own = number 4 (at + 4) s in
+    let k : own ≡ ONES → ⊥ = λ q. h (own-at r ∙ q) in
     record {
       place = r .place;
       named = r .named;
-      sized = own-given at (e .name) (number 4 (at + 4) s) k ∙ ap given (sym (plain at (e .name) (number 4 (at + 4) s) (e .size) (r .sized) k));
+      sized = own-given at (e .name) own k ∙ ap given (sym (plain at (e .name) own (e .size) (r .sized) k));
       ends = r .ends;
     }
 
@@ -82,33 +93,28 @@ laid-own rule plain {s} {at} (suc room) (next {e = e} {es = es} r l) k =
         → walk ownSize s (suc room) at ≡ shown s (e ∷ es)
     go below true h =
         let o = eqb-true (ownField s e) ONES h in
-        let q = ahead-ones s e es o in
-        row-ones rule s room at e r o ∙ λ i. record { rows = sym (q .0) i; end = sym (q .1) i }
+        row-ones rule s room at e r o ∙ sym (shown-ones s e es o)
     go below false h =
         let o = eqb-false (ownField s e) ONES h in
-        let q = ahead-sized s e es o in
         walk-chunk ownSize s room at e (past e) (step-row room (row-own rule plain s at e r o))
-        ∙ (λ i. record { rows = e ∷ below i .rows; end = below i .end })
-        ∙ λ i. record { rows = sym (q .0) i; end = sym (q .1) i }
+        ∙ ap (after e) below
+        ∙ sym (shown-sized s e es o)
 
 -- ---- the customer's two sentences
 
-ahead-split : (s : List ℕ) (xs : List Entry) (e : Entry) (ys : List Entry) → Sized s xs → ownField s e ≡ ONES
+shown-split : (s : List ℕ) (xs : List Entry) (e : Entry) (ys : List Entry) → Sized s xs → ownField s e ≡ ONES
     → shown s (xs ++ e ∷ ys) ≡ record { rows = xs; end = Refused NoSize }
 unfolding Sized
-ahead-split s [] e ys h o = let q = ahead-ones s e ys o in λ i. record { rows = q .0 i; end = q .1 i }
-ahead-split s (x ∷ xs) e ys h o =
-    let q = ahead-sized s x (xs ++ e ∷ ys) (h x (List·Memᴰ·head refl)) in
-    let below = ahead-split s xs e ys (λ y m. h y (List·Memᴰ·tail m)) o in
-    (λ i. record { rows = q .0 i; end = q .1 i }) ∙ λ i. record { rows = x ∷ below i .rows; end = below i .end }
+shown-split s [] e ys h o = shown-ones s e ys o
+shown-split s (x ∷ xs) e ys h o =
+    shown-sized s x (xs ++ e ∷ ys) (h x (List·Memᴰ·head refl))
+    ∙ ap (after x) (shown-split s xs e ys (λ y m. h y (List·Memᴰ·tail m)) o)
 
-ahead-whole : (s : List ℕ) (rows : List Entry) → Sized s rows → shown s rows ≡ record { rows = rows; end = Accepted }
+shown-whole : (s : List ℕ) (rows : List Entry) → Sized s rows → shown s rows ≡ record { rows = rows; end = Accepted }
 unfolding Sized ahead stop
-ahead-whole s [] h = refl
-ahead-whole s (x ∷ xs) h =
-    let q = ahead-sized s x xs (h x (List·Memᴰ·head refl)) in
-    let below = ahead-whole s xs (λ y m. h y (List·Memᴰ·tail m)) in
-    (λ i. record { rows = q .0 i; end = q .1 i }) ∙ λ i. record { rows = x ∷ below i .rows; end = below i .end }
+shown-whole s [] h = refl
+shown-whole s (x ∷ xs) h =
+    shown-sized s x xs (h x (List·Memᴰ·head refl)) ∙ ap (after x) (shown-whole s xs (λ y m. h y (List·Memᴰ·tail m)))
 
 true-plain : (s : List ℕ) (a : Scan) → Plain (trueSize (a .head) (entriesOf (a .head) s))
 unfolding Plain
@@ -125,7 +131,7 @@ scan-walk s a e =
 pub first-half : (s : List ℕ) (a : Scan) → scan s ≡ given a → FirstHalf s a
 first-half s a e =
     record {
-      stops = λ xs x ys h k o. scan-walk s a e ∙ ap (shown s) h ∙ ahead-split s xs x ys k o;
-      whole = λ h. scan-walk s a e ∙ ahead-whole s (a .rows) h;
+      stops = λ xs x ys h k o. scan-walk s a e ∙ ap (shown s) h ∙ shown-split s xs x ys k o;
+      whole = λ h. scan-walk s a e ∙ shown-whole s (a .rows) h;
       walk = scan-walk s a e;
     }

@@ -1,4 +1,5 @@
 pub mod Copies
+pub mod Counts
 pub mod FirstHalf
 pub mod Loops
 pub mod Notes

@@ -1,24 +1,20 @@
 -- An accepted file: what the scan's answer tells of its bytes, and what has to hold of them for that answer. The chain of
 -- checks is inverted link by link and built link by link, and the walk is exchanged for rows that are laid.
 -- Assumes nothing.
-use mathlib.Core.Path.{_≡_, refl, sym, _∙_, ap, subst}
-use mathlib.Core.Bool.{Bool, true, false, _||_}
-use mathlib.Core.List.{List, [], _∷_}
-use Prim.Native.Nat.{ℕ, _%_, _≤_, _<_}
-use native.Mathlib.Omega.{arith}
+use mathlib.Core.Path.{_≡_, refl, _∙_, ap, subst}
+use mathlib.Core.Bool.{true, _||_}
+use mathlib.Core.List.{List}
+use Prim.Native.Nat.{ℕ, _≤_, _<_}
 use lib.ListN.{length}
 use lib.Dec.{eqb, leb, ltb}
 use borrow.Author.Tests.{le-leb, leb-true, eq-eqb, ne-eqb, eqb-true, eqb-false, lt-ltb, ltb-true}
-use Rattle.le.specs.Choice.{pick, every}
 use Rattle.chunk.specs.declared.Entry.{Entry}
-use Rattle.chunk.specs.declared.Refusal.{Refusal}
-use Rattle.chunk.specs.declared.Refusal.the-variants.{Chunks}
 use Rattle.chunk.specs.declared.Verdict.{Verdict}
 use Rattle.chunk.specs.declared.Verdict.the-variants.{Accepted, Refused}
-use Rattle.chunk.specs.Refusals.{Answer, refused, given, check, andThen}
+use Rattle.chunk.specs.Refusals.{given}
 use Rattle.chunk.specs.Names.{FMT, DATA, FACT, BEXT, CHNA}
 use Rattle.chunk.specs.Tables.{count, find}
-use Rattle.chunk.specs.Walks.{Rule, Walked, walk}
+use Rattle.chunk.specs.Walks.{Walked}
 use Rattle.chunk.proofs.Checks.{given-inj, refused-given, check-given, check-true, andThen-given, andThen-at, rule-and, or-true, or-false}
 use Rattle.chunk.proofs.Laid.{Laid, walk-laid, laid-walk}
 use Rattle.form.specs.declared.Head.{Head}
@@ -57,7 +53,8 @@ good-chunked rows e =
       bext = leb-true (count BEXT rows) 1 (c4 .0);
       chna = leb-true (count CHNA rows) 1 (c5 .0);
       fact = leb-true (count FACT rows) 1 (c6 .0);
-      factHolds = λ k. leb-true 4 (find FACT rows .size) (or-false (eqb (count FACT rows) 0) _ (c7 .0) (ne-eqb (count FACT rows) 0 k));
+      factHolds = λ k.
+          leb-true 4 (find FACT rows .size) (or-false (eqb (count FACT rows) 0) _ (c7 .0) (ne-eqb (count FACT rows) 0 k));
     }
 
 pub chunked-good : (rows : List Entry) → Chunked rows → chunksGood rows ≡ true
@@ -70,7 +67,8 @@ chunked-good rows c =
       le-leb (count BEXT rows) 1 (c .bext),
       le-leb (count CHNA rows) 1 (c .chna),
       le-leb (count FACT rows) 1 (c .fact),
-      or-true (eqb (count FACT rows) 0) (leb 4 (find FACT rows .size)) (λ e. le-leb 4 (find FACT rows .size) (c .factHolds (eqb-false (count FACT rows) 0 e))),
+      or-true (eqb (count FACT rows) 0) (leb 4 (find FACT rows .size))
+          (λ e. le-leb 4 (find FACT rows .size) (c .factHolds (eqb-false (count FACT rows) 0 e))),
     )
 
 -- ---- the listing
@@ -127,7 +125,8 @@ scan-scanned s a e =
     let c2 = andThen-given (judged (payload (find FMT (c1 .0 .rows)) s) (find DATA (c1 .0 .rows) .size)) _ a (c1 .2) in
     gather (c1 .0) (c2 .0) (c1 .1) (c2 .1) (given-inj _ _ (c2 .2))
   where
-    gather : (l : Listing) (f : Format) → listing s ≡ given l → judged (payload (find FMT (l .rows)) s) (find DATA (l .rows) .size) ≡ given f
+    gather : (l : Listing) (f : Format) → listing s ≡ given l
+        → judged (payload (find FMT (l .rows)) s) (find DATA (l .rows) .size) ≡ given f
         → record { head = l .head; rows = l .rows; format = f } ≡ a → Scanned s a
     gather l f p q is = subst (Scanned s) is (record { listed = listing-listed s l p; format = q })
 
