@@ -2,17 +2,21 @@
 -- Assumes nothing.
 use mathlib.Core.Path.{_≡_, refl}
 use mathlib.Core.Bool.{Bool, true, false, _||_}
-use mathlib.Core.List.{List, [], _∷_}
+use mathlib.Core.List.{List, [], _∷_, _++_}
+use mathlib.Core.Logic.{_⊎_, inl, inr}
 use Prim.Native.Nat.{ℕ, _+_, _≤_, _<_}
 use native.Mathlib.Omega.{arith}
 use lib.ListN.{length}
-use lib.Dec.{eqb}
-use borrow.Author.Tests.{eqb-true, ne-eqb}
-use Rattle.le.specs.Choice.{pick}
+use lib.Dec.{eqb, ltb}
+use borrow.Author.Tests.{eqb-true, ne-eqb, ltb-true}
+use Rattle.le.specs.Number.{bytes}
+use Rattle.le.specs.Choice.{pick, every}
 use Rattle.chunk.specs.declared.Refusal.the-variants.{BadFmt}
 use Rattle.chunk.specs.Refusals.{Answer, refused, given}
+use Rattle.chunk.proofs.Checks.{true-false}
 use Rattle.fmt.specs.declared.Format.{Format}
-use Rattle.fmt.specs.Formats.{sizeGood, bitsGood, recordGood, recordIn, extraGood, formatIn}
+use Rattle.fmt.specs.Formats.{PCM, EXTENSIBLE, SUBFORMAT-LOW, SUBFORMAT-HIGH, sizeGood, bitsGood, samplesGood, validGood, recordGood, recordIn, extraGood, formatIn}
+use Rattle.fmt.specs.Writing.{extraBytes, fieldsFit}
 
 -- ---- rules
 
@@ -21,6 +25,22 @@ pub last : (b : Bool) → b ≡ pick b true false
 unfolding pick
 last true = refl
 last false = refl
+
+-- the rules of a list, one by one
+abbrev pub All : List Bool → Type 0
+All [] = Unit
+All (b ∷ bs) = (b ≡ true) × All bs
+
+pub all : (bs : List Bool) → every bs ≡ true → All bs
+unfolding every
+all [] h = tt
+all (true ∷ bs) h = (refl, all bs h)
+all (false ∷ bs) h = absurd (true-false false h refl)
+
+pub every-of : (bs : List Bool) → All bs → every bs ≡ true
+unfolding every
+every-of [] a = refl
+every-of (b ∷ bs) a = rw (a .0) (every-of bs (a .1))
 
 -- one of two rules holds
 either : {A : Type 0} (a b : Bool) → (a || b) ≡ true → (a ≡ true → A) → (b ≡ true → A) → A
@@ -48,6 +68,34 @@ size-short t s h = rw (ne-eqb s 16 (omega arith), ne-eqb s 18 (omega arith), ne-
     cases false true = refl
     cases false false = refl
 
+-- a record's size, by its tag
+pub size-cases : (t s : ℕ) → sizeGood t s ≡ true → (s ≡ 16) ⊎ ((s ≡ 18) ⊎ (s ≡ 40))
+unfolding sizeGood
+size-cases t s = cases (eqb t PCM) (eqb t EXTENSIBLE)
+  where
+    cases : (a b : Bool) → pick a (eqb s 16 || eqb s 18) (pick b (eqb s 40) false) ≡ true → (s ≡ 16) ⊎ ((s ≡ 18) ⊎ (s ≡ 40))
+    cases true b h = either (eqb s 16) (eqb s 18) h (λ e. inl (eqb-true _ _ e)) (λ e. inr (inl (eqb-true _ _ e)))
+    cases false true h = inr (inr (eqb-true _ _ h))
+    cases false false h = absurd (true-false false h refl)
+
+-- the rules of a good record
+pub record Good (f : Format) : Type 0 where
+  pub size : sizeGood (f .tag) (f .size) ≡ true
+  pub samples : samplesGood (f .channels) (f .rate) (f .block) (f .bits) ≡ true
+  pub valid : validGood (f .size) (f .bits) (f .valid) (f .mask) ≡ true
+
+pub good : (f : Format) → recordGood f ≡ true → Good f
+unfolding recordGood
+good f h =
+    let k =
+    all
+    (sizeGood (f .tag) (f .size)
+    ∷ samplesGood (f .channels) (f .rate) (f .block) (f .bits)
+    ∷ validGood (f .size) (f .bits) (f .valid) (f .mask)
+    ∷ [])
+    h in
+    record { size = k .0; samples = k .1 .0; valid = k .1 .1 .0 }
+
 -- ---- payloads
 
 pub extra-bad : (p : List ℕ) → extraGood p ≡ false → formatIn p ≡ refused BadFmt
@@ -69,3 +117,48 @@ short p h = record-bad p (simp (size-short (recordIn p .tag) (length p) h))
 pub accepted : (p : List ℕ) → extraGood p ≡ true → recordGood (recordIn p) ≡ true → formatIn p ≡ given (recordIn p)
 unfolding formatIn
 accepted p e r = simp (e, r)
+
+-- ---- fields that fit their bytes
+
+pub record Fits (f : Format) : Type 0 where
+  pub channels : f .channels < 65536
+  pub rate : f .rate < 4294967296
+  pub byterate : f .byterate < 4294967296
+  pub block : f .block < 65536
+  pub mask : f .mask < 4294967296
+
+pub fits : (f : Format) → fieldsFit f ≡ true → Fits f
+unfolding fieldsFit
+fits f h =
+    let k =
+    all
+    (ltb (f .channels) 65536
+    ∷ ltb (f .rate) 4294967296
+    ∷ ltb (f .byterate) 4294967296
+    ∷ ltb (f .block) 65536
+    ∷ ltb (f .mask) 4294967296
+    ∷ [])
+    h in
+    record {
+      channels = ltb-true _ _ (k .0);
+      rate = ltb-true _ _ (k .1 .0);
+      byterate = ltb-true _ _ (k .1 .1 .0);
+      block = ltb-true _ _ (k .1 .1 .1 .0);
+      mask = ltb-true _ _ (k .1 .1 .1 .1 .0);
+    }
+
+-- ---- what follows the first 16 bytes
+
+pub extra-16 : (f : Format) → (f .size ≡ 18 → ⊥) → (f .size ≡ 40 → ⊥) → extraBytes f ≡ []
+unfolding extraBytes
+extra-16 f h k = simp (ne-eqb _ _ h, ne-eqb _ _ k)
+
+pub extra-18 : (f : Format) → f .size ≡ 18 → extraBytes f ≡ bytes 2 0
+unfolding extraBytes
+extra-18 f h = rw h
+
+pub extra-40 : (f : Format) → f .size ≡ 40
+    → extraBytes f
+    ≡ bytes 2 22 ++ (bytes 2 (f .valid) ++ (bytes 4 (f .mask) ++ (bytes 8 SUBFORMAT-LOW ++ bytes 8 SUBFORMAT-HIGH)))
+unfolding extraBytes
+extra-40 f h = rw h
