@@ -1,19 +1,21 @@
 -- The laws of the rules of fmt: what follows where a rule holds.
 -- Assumes nothing.
-use mathlib.Core.Path.{_≡_, refl}
+use mathlib.Core.Path.{_≡_, refl, sym, ap, _∙_, subst}
 use mathlib.Core.Bool.{Bool, true, false, _||_}
 use mathlib.Core.List.{List, [], _∷_, _++_}
 use mathlib.Core.Logic.{_⊎_, inl, inr}
-use Prim.Native.Nat.{ℕ, _+_, _≤_, _<_}
+use Prim.Native.Nat.{ℕ, _*_, _/_, _≤_, _<_}
+use native.Mathlib.Nat.{mul-le-mul}
 use native.Mathlib.Omega.{arith}
 use lib.ListN.{length}
-use lib.Dec.{eqb, ltb}
-use borrow.Author.Tests.{eqb-true, ne-eqb, ltb-true}
-use Rattle.le.specs.Number.{bytes}
+use lib.Dec.{eqb, ltb, leb, lit<}
+use borrow.Author.Tests.{eqb-true, ne-eqb, ltb-true, leb-true}
+use Rattle.le.specs.Number.{Bytes, bytes}
 use Rattle.le.specs.Choice.{pick, every}
+use Rattle.le.proofs.Laws.{number-bound}
 use Rattle.chunk.specs.declared.Refusal.the-variants.{BadFmt}
-use Rattle.chunk.specs.Refusals.{Answer, refused, given}
-use Rattle.chunk.proofs.Checks.{true-false}
+use Rattle.chunk.specs.Refusals.{Answer, refused, given, check}
+use Rattle.chunk.proofs.Checks.{true-false, check-given, given-inj, picked}
 use Rattle.fmt.specs.declared.Format.{Format}
 use Rattle.fmt.specs.Formats.{PCM, EXTENSIBLE, SUBFORMAT-LOW, SUBFORMAT-HIGH, sizeGood, bitsGood, samplesGood, validGood, recordGood, recordIn, extraGood, formatIn}
 use Rattle.fmt.specs.Writing.{extraBytes, fieldsFit}
@@ -117,6 +119,84 @@ short p h = record-bad p (simp (size-short (recordIn p .tag) (length p) h))
 pub accepted : (p : List ℕ) → extraGood p ≡ true → recordGood (recordIn p) ≡ true → formatIn p ≡ given (recordIn p)
 unfolding formatIn
 accepted p e r = simp (e, r)
+
+-- ---- what callers use of an accepted payload
+
+-- the inversion of formatIn
+pub record Holds (p : List ℕ) (f : Format) : Type 0 where
+  pub is : f ≡ recordIn p
+  pub extra : extraGood p ≡ true
+  pub rules : recordGood f ≡ true
+
+pub format-given : (p : List ℕ) (f : Format) → formatIn p ≡ given f → Holds p f
+unfolding formatIn
+format-given p f h =
+    let k = check-given (extraGood p) BadFmt (check (recordGood (recordIn p)) BadFmt (given (recordIn p))) f h in
+    let l = check-given (recordGood (recordIn p)) BadFmt (given (recordIn p)) f (k .1) in
+    let e = given-inj (recordIn p) f (l .1) in
+    record { is = sym e; extra = k .0; rules = ap recordGood (sym e) ∙ l .0 }
+
+pub given-format : (p : List ℕ) (f : Format) → Holds p f → formatIn p ≡ given f
+given-format p f h =
+    accepted p (h .extra) (ap recordGood (sym (h .is)) ∙ h .rules) ∙ ap given (sym (h .is))
+
+-- the rules of the samples
+pub record Samples (channels rate block bits : ℕ) : Type 0 where
+  pub channels-least : 1 ≤ channels
+  pub rate-least : 1 ≤ rate
+  pub bits-good : bitsGood bits ≡ true
+  pub block-is : block ≡ channels * bits / 8
+
+pub samples : (n r b w : ℕ) → samplesGood n r b w ≡ true → Samples n r b w
+unfolding samplesGood
+samples n r b w h =
+    let k = all (leb 1 n ∷ leb 1 r ∷ bitsGood w ∷ eqb b (n * w / 8) ∷ []) h in
+    record {
+      channels-least = leb-true _ _ (k .0);
+      rate-least = leb-true _ _ (k .1 .0);
+      bits-good = k .1 .1 .0;
+      block-is = eqb-true _ _ (k .1 .1 .1 .0);
+    }
+
+-- a block is at least one byte
+pub block-least : (p : List ℕ) (f : Format) → formatIn p ≡ given f → 1 ≤ f .block
+block-least p f h =
+    let s = samples _ _ _ _ (good f (format-given p f h .rules) .samples) in
+    let w : 8 ≤ f .bits = bits-range _ (s .bits-good) .0 in
+    omega (arith, s .block-is, mul-le-mul (s .channels-least) w)
+
+-- every field fits its bytes
+pub record Bounds (f : Format) : Type 0 where
+  pub tag : f .tag < 65536
+  pub channels : f .channels < 65536
+  pub rate : f .rate < 4294967296
+  pub byterate : f .byterate < 4294967296
+  pub block : f .block < 65536
+  pub bits : f .bits < 65536
+  pub valid : f .valid < 65536
+  pub mask : f .mask < 4294967296
+
+pub bounds-in : (p : List ℕ) → Bytes p → Bounds (recordIn p)
+unfolding recordIn
+bounds-in p b =
+    record {
+      tag = number-bound 2 0 p b;
+      channels = number-bound 2 2 p b;
+      rate = number-bound 4 4 p b;
+      byterate = number-bound 4 8 p b;
+      block = number-bound 2 12 p b;
+      bits = number-bound 2 14 p b;
+      valid = picked (λ (n : ℕ). n < 65536) (eqb (length p) 40) _ _ (λ e. number-bound 2 18 p b) (λ e. lit< tt);
+      mask = picked (λ (n : ℕ). n < 4294967296) (eqb (length p) 40) _ _ (λ e. number-bound 4 20 p b) (λ e. lit< tt);
+    }
+
+pub bounds : (p : List ℕ) (f : Format) → Bytes p → formatIn p ≡ given f → Bounds f
+bounds p f b h = subst Bounds (sym (format-given p f h .is)) (bounds-in p b)
+
+-- its size is the payload's length: 16, 18 or 40
+pub size-is : (p : List ℕ) (f : Format) → formatIn p ≡ given f → f .size ≡ length p
+unfolding recordIn
+size-is p f h = ap (λ (g : Format). g .size) (format-given p f h .is)
 
 -- ---- fields that fit their bytes
 
