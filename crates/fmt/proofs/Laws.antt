@@ -9,8 +9,8 @@ use native.Mathlib.Nat.{mul-le-mul}
 use native.Mathlib.Omega.{arith}
 use lib.ListN.{length}
 use lib.Dec.{eqb, ltb, leb, lit<}
-use borrow.Author.Tests.{eqb-true, ne-eqb, ltb-true, leb-true}
-use Rattle.le.specs.Number.{Bytes, bytes}
+use borrow.Author.Tests.{eqb-true, ne-eqb, ltb-true, leb-true, lt-ltb}
+use Rattle.le.specs.Number.{Bytes, bytes, number}
 use Rattle.le.specs.Choice.{pick, every}
 use Rattle.le.proofs.Laws.{number-bound}
 use Rattle.chunk.specs.declared.Refusal.the-variants.{BadFmt}
@@ -80,6 +80,30 @@ size-cases t s = cases (eqb t PCM) (eqb t EXTENSIBLE)
     cases false true h = inr (inr (eqb-true _ _ h))
     cases false false h = absurd (true-false false h refl)
 
+-- a tag that goes with a size fits its bytes
+pub tag-fits : (t s : ℕ) → sizeGood t s ≡ true → t < 65536
+unfolding sizeGood
+tag-fits t s = cases (eqb t PCM) refl (eqb t EXTENSIBLE) refl
+  where
+    cases : (a : Bool) → eqb t PCM ≡ a → (b : Bool) → eqb t EXTENSIBLE ≡ b
+        → pick a (eqb s 16 || eqb s 18) (pick b (eqb s 40) false) ≡ true → t < 65536
+    cases true e b e' h = omega (arith, eqb-true)
+    cases false e true e' h = omega (arith, eqb-true)
+    cases false e false e' h = absurd (true-false false h refl)
+
+-- valid bits and mask, by the size
+pub valid-40 : (s w v m : ℕ) → validGood s w v m ≡ true → s ≡ 40 → (1 ≤ v) × (v ≤ w)
+unfolding validGood
+valid-40 s w v m h e =
+    let k = all (leb 1 v ∷ leb v w ∷ []) (rw e at h) in
+    (leb-true _ _ (k .0), leb-true _ _ (k .1 .0))
+
+pub valid-none : (s w v m : ℕ) → validGood s w v m ≡ true → (s ≡ 40 → ⊥) → (v ≡ 0) × (m ≡ 0)
+unfolding validGood
+valid-none s w v m h e =
+    let k = all (eqb v 0 ∷ eqb m 0 ∷ []) (rw (ne-eqb s 40 e) at h) in
+    (eqb-true _ _ (k .0), eqb-true _ _ (k .1 .0))
+
 -- the rules of a good record
 pub record Good (f : Format) : Type 0 where
   pub size : sizeGood (f .tag) (f .size) ≡ true
@@ -97,6 +121,34 @@ good f h =
     ∷ [])
     h in
     record { size = k .0; samples = k .1 .0; valid = k .1 .1 .0 }
+
+-- ---- the record of a payload
+
+-- a number that stands only in 40 bytes
+pub of40 : List ℕ → ℕ → ℕ → ℕ
+unfolding pick
+of40 p n at = pick (eqb (length p) 40) (number n at p) 0
+
+pub present : (p : List ℕ) (n at : ℕ) {v : ℕ} → length p ≡ 40 → v ≡ number n at p → v ≡ of40 p n at
+unfolding of40
+present p n at l e = rw l e
+
+pub absent : (p : List ℕ) (n at : ℕ) {v : ℕ} → (length p ≡ 40 → ⊥) → v ≡ 0 → v ≡ of40 p n at
+unfolding of40
+absent p n at l e = rw (ne-eqb _ _ l) e
+
+pub gathered : (p : List ℕ) (f : Format) → f .size ≡ length p → f .tag ≡ number 2 0 p → f .channels ≡ number 2 2 p
+    → f .rate ≡ number 4 4 p → f .byterate ≡ number 4 8 p → f .block ≡ number 2 12 p → f .bits ≡ number 2 14 p
+    → f .valid ≡ of40 p 2 18 → f .mask ≡ of40 p 4 20 → f ≡ recordIn p
+unfolding recordIn of40
+gathered p f e₀ e₁ e₂ e₃ e₄ e₅ e₆ e₇ e₈ = joined e₀ e₁ e₂ e₃ e₄ e₅ e₆ e₇ e₈
+  where
+    joined : {s s' t t' n n' r r' y y' b b' w w' v v' m m' : ℕ}
+        → s ≡ s' → t ≡ t' → n ≡ n' → r ≡ r' → y ≡ y' → b ≡ b' → w ≡ w' → v ≡ v' → m ≡ m'
+        → _≡_ {A = Format}
+        (record { size = s; tag = t; channels = n; rate = r; byterate = y; block = b; bits = w; valid = v; mask = m })
+        (record { size = s'; tag = t'; channels = n'; rate = r'; byterate = y'; block = b'; bits = w'; valid = v'; mask = m' })
+    joined e₀ e₁ e₂ e₃ e₄ e₅ e₆ e₇ e₈ = cc
 
 -- ---- payloads
 
@@ -226,6 +278,20 @@ fits f h =
       block = ltb-true _ _ (k .1 .1 .1 .0);
       mask = ltb-true _ _ (k .1 .1 .1 .1 .0);
     }
+
+pub fits-of : (f : Format) → Fits f → fieldsFit f ≡ true
+unfolding fieldsFit
+fits-of f h =
+    every-of
+    (ltb (f .channels) 65536
+    ∷ ltb (f .rate) 4294967296
+    ∷ ltb (f .byterate) 4294967296
+    ∷ ltb (f .block) 65536
+    ∷ ltb (f .mask) 4294967296
+    ∷ []) (
+      lt-ltb _ _ (h .channels),
+      (lt-ltb _ _ (h .rate), (lt-ltb _ _ (h .byterate), (lt-ltb _ _ (h .block), (lt-ltb _ _ (h .mask), tt)))),
+    )
 
 -- ---- what follows the first 16 bytes
 

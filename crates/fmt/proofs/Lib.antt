@@ -1,2 +1,3 @@
 pub mod Laws
 pub mod Payloads
+pub mod RoundTrip

@@ -22,7 +22,7 @@ use Rattle.chunk.proofs.Checks.{check-true, check-false, check-given, given-inj
 use Rattle.fmt.specs.declared.Format.{Format}
 use Rattle.fmt.specs.Formats.{recordGood}
 use Rattle.fmt.specs.Writing.{headBytes, extraBytes, formatBytes, fieldsFit, writable, formatOut, Writes}
-use Rattle.fmt.proofs.Laws.{all, every-of, good, size-cases, Fits, fits, extra-16, extra-18, extra-40}
+use Rattle.fmt.proofs.Laws.{all, every-of, good, size-cases, Fits, fits, fits-of, extra-16, extra-18, extra-40}
 
 -- ---- lengths
 
@@ -55,6 +55,13 @@ unfolding writable
 writable-true f h =
     let k = all (fieldsFit f ∷ recordGood f ∷ eqb (f .byterate) (f .rate * f .block) ∷ []) h in
     record { fit = fits f (k .0); good = k .1 .0; product = eqb-true _ _ (k .1 .1 .0) }
+
+pub writable-of : (f : Format) → Writable f → writable f ≡ true
+unfolding writable
+writable-of f h =
+    every-of
+    (fieldsFit f ∷ recordGood f ∷ eqb (f .byterate) (f .rate * f .block) ∷ [])
+    (fits-of f (h .fit), (h .good, (eq-eqb _ _ (h .product), tt)))
 
 pub out-given : (f : Format) (bs : List ℕ) → formatOut f ≡ given bs → (writable f ≡ true) × (bs ≡ formatBytes f)
 unfolding formatOut

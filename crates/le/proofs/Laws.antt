@@ -169,3 +169,17 @@ unfolding field
 number-then n at s b h =
     sym (take-append-drop n (drop at s))
     ∙ ap₂ _++_ (sym (bytes-number n at s b h)) (drop-drop n at s)
+
+-- ---- runs of bytes
+
+pub Bytes-bytes : (n v : ℕ) → Bytes (bytes n v)
+unfolding Bytes bytes
+Bytes-bytes zero v i = lit< tt
+Bytes-bytes (suc n) v zero = mod-lt v (lit< tt)
+Bytes-bytes (suc n) v (suc i) = Bytes-bytes n (v / 256) i
+
+pub Bytes-append : (a b : List ℕ) → Bytes a → Bytes b → Bytes (a ++ b)
+unfolding Bytes
+Bytes-append [] b ha hb i = hb i
+Bytes-append (x ∷ a) b ha hb zero = ha 0
+Bytes-append (x ∷ a) b ha hb (suc i) = Bytes-append a b (λ j. ha (suc j)) hb i
