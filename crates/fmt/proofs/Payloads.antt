@@ -2,7 +2,7 @@
 -- answers and leaves.
 -- Assumes nothing.
 use mathlib.Core.Path.{_≡_, refl, sym, ap, _∙_}
-use mathlib.Core.Bool.{Bool, true, false}
+use mathlib.Core.Bool.{true, false}
 use mathlib.Core.List.{List, [], _∷_, _++_}
 use mathlib.Core.Logic.{_⊎_, inl, inr}
 use Prim.Native.Nat.{ℕ, _+_, _*_, _≤_, _<_}
@@ -13,7 +13,7 @@ use lib.Seq.{sets, sets-eq}
 use lib.Dec.{eqb}
 use borrow.Author.Tests.{eq-eqb, eqb-true, le-leb, lt-leb}
 use Rattle.le.specs.Number.{bytes}
-use Rattle.le.proofs.Laws.{bytes-length, sets-append}
+use Rattle.le.proofs.Laws.{sets-append}
 use Rattle.chunk.specs.declared.Refusal.the-variants.{BadRecord, NoRoom}
 use Rattle.chunk.specs.declared.Written.the-variants as written
 use Rattle.chunk.specs.Refusals.{Answer, refused, given}

@@ -2,23 +2,26 @@
 -- bytes a second are rate times block. So a record can be written exactly when it could have been read and has that rate.
 -- Assumes nothing.
 use mathlib.Core.Path.{_≡_, refl, sym, ap, ap₂, _∙_, subst}
-use mathlib.Core.Bool.{Bool, true, false}
+use mathlib.Core.Bool.{true}
 use mathlib.Core.List.{List, [], _∷_, _++_, append-assoc, append-nil}
 use mathlib.Core.Logic.{_⊎_, inl, inr, _↔_}
-use Prim.Native.Nat.{ℕ, _+_, _*_, _≤_, _<_}
+use Prim.Native.Nat.{ℕ, _*_, _≤_, _<_}
 use native.Mathlib.Omega.{arith}
 use lib.ListN.{length, take, drop, drop-of-length-le}
 use lib.Dec.{eqb}
-use borrow.Author.Tests.{eq-eqb, ne-eqb, eqb-true}
+use borrow.Author.Tests.{eq-eqb, eqb-true}
 use Rattle.le.specs.Number.{Bytes, value, bytes, field, number}
 use Rattle.le.proofs.Laws.{value-bytes, number-then, Bytes-bytes, Bytes-append}
-use Rattle.chunk.specs.Refusals.{Answer, refused, given}
+use Rattle.chunk.specs.declared.Refusal.{Refusal}
+use Rattle.chunk.specs.declared.Written.the-variants as written
+use Rattle.chunk.specs.Refusals.{given}
 use Rattle.chunk.proofs.Checks.{given-inj, picked}
 use Rattle.fmt.specs.declared.Format.{Format}
-use Rattle.fmt.specs.Formats.{SUBFORMAT-LOW, SUBFORMAT-HIGH, recordIn, sizeGood, recordGood, extraGood, formatIn}
-use Rattle.fmt.specs.Writing.{headBytes, extraBytes, formatBytes, writable, formatOut}
-use Rattle.fmt.proofs.Laws.{all, every-of, of40, present, absent, gathered, good, samples, bits-range, size-cases, tag-fits, valid-40, valid-none, Holds, format-given, given-format, Bounds, bounds, size-is, extra-16, extra-18, extra-40}
+use Rattle.fmt.specs.Formats.{SUBFORMAT-LOW, SUBFORMAT-HIGH, recordIn, sizeGood, extraGood, formatIn}
+use Rattle.fmt.specs.Writing.{headBytes, extraBytes, formatBytes, writable, formatOut, Writes}
+use Rattle.fmt.proofs.Laws.{all, of40, present, absent, gathered, good, samples, bits-range, size-cases, tag-fits, valid-40, valid-none, Holds, format-given, given-format, bounds, size-is, extra-16, extra-18, extra-40}
 use Rattle.fmt.proofs.Payloads.{Writable, writable-true, writable-of, out-given, out-of, payload-length}
+use Rattle.fmt.proofs.Outputs.{wrote-at-start, refusal-keeps}
 
 -- ---- the bytes that a record does not keep
 
@@ -140,6 +143,16 @@ reads-back f bs h =
     let k = out-given f bs h in
     ap formatIn (k .1) ∙ given-format (formatBytes f) f (holds f (writable-true f (k .0)))
 
+-- so is what the writer leaves at the start of its output
+pub output-reads-back : (f : Format) (s t : List ℕ) (n : ℕ) → Writes f s t (written.Bytes n) → formatIn (take n t) ≡ given f
+output-reads-back f s t n h =
+    let k = wrote-at-start s t (formatOut f) n (h .answers) (h .leaves) in
+    ap formatIn (k .at-start) ∙ reads-back f (k .payload) (k .is-given)
+
+-- a refusal changes no byte
+pub refusal-changes-nothing : (f : Format) (s t : List ℕ) (r : Refusal) → Writes f s t (written.Refused r) → t ≡ s
+refusal-changes-nothing f s t r h = refusal-keeps s t (formatOut f) r (h .answers) (h .leaves)
+
 -- ---- read, then written
 
 module _ (p : List ℕ) (b : Bytes p) where
@@ -237,6 +250,13 @@ could-write p f b h e =
 pub writes-back : (p : List ℕ) (f : Format) → Bytes p → formatIn p ≡ given f → f .byterate ≡ f .rate * f .block
     → formatOut f ≡ given p
 writes-back p f b h e = out-of f (could-write p f b h e) ∙ ap given (payload-again p f b h)
+
+-- an accepted payload has one record, and a record one payload
+pub one-record : (p : List ℕ) (f g : Format) → formatIn p ≡ given f → formatIn p ≡ given g → f ≡ g
+one-record p f g h k = given-inj f g (sym h ∙ k)
+
+pub one-payload : (p q : List ℕ) (f : Format) → Bytes p → Bytes q → formatIn p ≡ given f → formatIn q ≡ given f → p ≡ q
+one-payload p q f bp bq h k = sym (payload-again p f bp h) ∙ payload-again q f bq k
 
 -- ---- what can be written
 
