@@ -55,4 +55,15 @@ returns c =
     }
 
 pub fields-spec : {M : Type 1} → statement M
-fields-spec = tie.close (tie.spec read2-requires read4-requires read2-requires-2 read2-requires-3 read4-requires-2 read4-requires-3 read2-requires-4 read2-requires-5 returns)
+fields-spec =
+    tie.close
+    (tie.spec
+    read2-requires
+    read4-requires
+    read2-requires-2
+    read2-requires-3
+    read4-requires-2
+    read4-requires-3
+    read2-requires-4
+    read2-requires-5
+    returns)

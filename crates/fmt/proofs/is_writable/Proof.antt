@@ -44,4 +44,12 @@ returns-3 c =
     (last _)
 
 pub is-writable-spec : {M : Type 1} → statement M
-is-writable-spec = tie.close (tie.spec fields-fit-requires returns record-good-requires returns-2 mul-result returns-3)
+is-writable-spec =
+    tie.close
+    (tie.spec
+    fields-fit-requires
+    returns
+    record-good-requires
+    returns-2
+    mul-result
+    returns-3)

@@ -56,18 +56,36 @@ same-length-2 c = search needs
 
 returns-2 : tie.Need-returns-2
 returns-2 c =
-    let f = c .before .before .before .before .before .before .before .before .before .before .before .before .before .before .before .before .before .before .before .before .before .before .before .args .format in
+    let c₄ = c .before .before .before .before in
+    let c₃ = c₄ .before .before .before .before in
+    let c₂ = c₃ .before .before .before .before in
+    let c₁ = c₂ .before .before .before .before in
+    let start = c₁ .before .before .before .before in
+    let f = start .before .before .before .args .format in
     c .before .before .store82 .ensures
     ∙ ap (stored 8 32 SUBFORMAT-HIGH)
-    (c .before .before .before .before .before .before .store8 .ensures
+    (c₄ .before .before .store8 .ensures
     ∙ ap (stored 8 24 SUBFORMAT-LOW)
-    (c .before .before .before .before .before .before .before .before .before .before .store4 .ensures
+    (c₃ .before .before .store4 .ensures
     ∙ ap (stored 4 20 (f .mask))
-    (c .before .before .before .before .before .before .before .before .before .before .before .before .before .before .store23 .ensures ∙ ap (stored 2 18 (f .valid)) (c .before .before .before .before .before .before .before .before .before .before .before .before .before .before .before .before .before .before .store22 .ensures))))
-    ∙ sym (laid f _ (c .before .before .before .before .before .before .before .before .before .before .before .before .before .before .before .before .before .before .before .before .if2 .taken))
+    (c₂ .before .before .store23 .ensures ∙ ap (stored 2 18 (f .valid)) (c₁ .before .before .store22 .ensures))))
+    ∙ sym (laid f _ (start .if2 .taken))
 
 returns-3 : tie.Need-returns-3
 returns-3 c = sym (ap (sets _ 16) (extra-16 _ (c .before .if1 .left) (c .if2 .left)))
 
 pub store-extra-spec : {M : Type 1} → statement M
-store-extra-spec = tie.close (tie.spec store2-requires same-length returns store2-requires-2 store2-requires-3 store4-requires store8-requires store8-requires-2 same-length-2 returns-2 returns-3)
+store-extra-spec =
+    tie.close
+    (tie.spec
+    store2-requires
+    same-length
+    returns
+    store2-requires-2
+    store2-requires-3
+    store4-requires
+    store8-requires
+    store8-requires-2
+    same-length-2
+    returns-2
+    returns-3)

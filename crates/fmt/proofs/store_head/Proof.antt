@@ -48,17 +48,32 @@ same-length c = search needs
 
 returns : tie.Need-returns
 returns c =
-    let f = c .before .before .before .before .before .before .before .before .before .before .before .before .before .before .before .before .before .before .before .before .before .before .before .before .before .args .format in
+    let c₅ = c .before .before .before .before in
+    let c₄ = c₅ .before .before .before .before in
+    let c₃ = c₄ .before .before .before .before in
+    let c₂ = c₃ .before .before .before .before in
+    let c₁ = c₂ .before .before .before .before in
+    let f = c₁ .before .before .before .before .before .args .format in
     c .before .before .store24 .ensures
     ∙ ap (stored 2 14 (f .bits))
-    (c .before .before .before .before .before .before .store23 .ensures
+    (c₅ .before .before .store23 .ensures
     ∙ ap (stored 2 12 (f .block))
-    (c .before .before .before .before .before .before .before .before .before .before .store42 .ensures
+    (c₄ .before .before .store42 .ensures
     ∙ ap (stored 4 8 (f .byterate))
-    (c .before .before .before .before .before .before .before .before .before .before .before .before .before .before .store4 .ensures
+    (c₃ .before .before .store4 .ensures
     ∙ ap (stored 4 4 (f .rate))
-    (c .before .before .before .before .before .before .before .before .before .before .before .before .before .before .before .before .before .before .store22 .ensures ∙ ap (stored 2 2 (f .channels)) (c .before .before .before .before .before .before .before .before .before .before .before .before .before .before .before .before .before .before .before .before .before .before .store2 .ensures)))))
+    (c₂ .before .before .store22 .ensures ∙ ap (stored 2 2 (f .channels)) (c₁ .before .before .store2 .ensures)))))
     ∙ sym (laid f _)
 
 pub store-head-spec : {M : Type 1} → statement M
-store-head-spec = tie.close (tie.spec store2-requires store2-requires-2 store4-requires store4-requires-2 store2-requires-3 store2-requires-4 same-length returns)
+store-head-spec =
+    tie.close
+    (tie.spec
+    store2-requires
+    store2-requires-2
+    store4-requires
+    store4-requires-2
+    store2-requires-3
+    store2-requires-4
+    same-length
+    returns)
