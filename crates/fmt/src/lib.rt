@@ -3,10 +3,13 @@
 // A payload has 16, 18 or 40 bytes: tag 2, channels 2, rate 4, bytes a second 4, block 2, bits 2; then an extra length 2;
 // then valid bits 2, channel mask 4, subformat 16.
 use chunk::Refusal;
+use chunk::Written;
 ghost use mathlib.Core.Path.{_≡_};
 ghost use Prim.Native.Nat.{_≤_, _<_};
 ghost use lib.ListN.{length};
+ghost use lib.Seq.{sets};
 ghost use Rattle.fmt.specs.Formats.{Fields, sizeGood, bitsGood, samplesGood, validGood, recordGood, extraGood, formatIn, readAs};
+ghost use Rattle.fmt.specs.Writing.{headBytes, extraBytes, fieldsFit, writable, Writes};
 
 // A format record, which keeps the length of its payload.
 pub struct Format {
@@ -154,4 +157,84 @@ pub fn read(payload: &[u8]) -> Reading
         return Reading::Refused(Refusal::BadFmt);
     }
     Reading::Record(record)
+}
+
+// No field is too large for its bytes.
+fn fields_fit(format: Format) -> bool
+    ensures { λ r. ⌜ r ≡ fieldsFit format ⌝ }
+{
+    if 0x1_0000 <= format.channels {
+        return false;
+    }
+    if 0x1_0000_0000 <= format.rate {
+        return false;
+    }
+    if 0x1_0000_0000 <= format.byterate {
+        return false;
+    }
+    if 0x1_0000 <= format.block {
+        return false;
+    }
+    format.mask < 0x1_0000_0000
+}
+
+// A record that could have been read, and whose bytes a second are rate times block.
+fn is_writable(format: Format) -> bool
+    ensures { λ r. ⌜ r ≡ writable format ⌝ }
+{
+    if !fields_fit(format) {
+        return false;
+    }
+    if !record_good(format) {
+        return false;
+    }
+    format.byterate == format.rate * format.block
+}
+
+// Stores the first 16 bytes.
+fn store_head(format: Format, out: &mut [u8])
+    requires { ⌜ 16 ≤ length (now out) ⌝ }
+    ensures { λ _. ⌜ now (out .exit) ≡ sets (now (out .entry)) 0 (headBytes format) ⌝ }
+{
+    le::store2(out, 0, format.tag);
+    le::store2(out, 2, format.channels);
+    le::store4(out, 4, format.rate);
+    le::store4(out, 8, format.byterate);
+    le::store2(out, 12, format.block);
+    le::store2(out, 14, format.bits);
+}
+
+// Stores what follows the first 16 bytes.
+fn store_extra(format: Format, out: &mut [u8])
+    requires { ⌜ (16 ≤ length (now out)) × (format .size ≤ length (now out)) ⌝ }
+    ensures { λ _. ⌜ now (out .exit) ≡ sets (now (out .entry)) 16 (extraBytes format) ⌝ }
+{
+    let size = format.size;
+    if size == 18 {
+        le::store2(out, 16, 0);
+        return;
+    }
+    if size == 40 {
+        le::store2(out, 16, 22);
+        le::store2(out, 18, format.valid);
+        le::store4(out, 20, format.mask);
+        le::store8(out, 24, 0x0010_0000_0000_0001);
+        le::store8(out, 32, 0x719b_3800_aa00_0080);
+    }
+}
+
+// Writes a record's payload at the start of out. A refusal changes no byte.
+pub fn write(format: Format, out: &mut [u8]) -> Written
+    ensures { λ r. ⌜ Writes format (now (out .entry)) (now (out .exit)) r ⌝ }
+{
+    if !is_writable(format) {
+        return Written::Refused(Refusal::BadRecord);
+    }
+    let size = format.size;
+    if (out.len() as u64) < size {
+        return Written::Refused(Refusal::NoRoom);
+    }
+    store_head(format, out);
+    store_extra(format, out);
+    Written::Bytes(size)
 }

@@ -70,4 +70,15 @@ returns-5 c =
     (sym (c .before .before .read8 .ensures .is) ∙ c .before .if4 .left)
 
 pub extra-good-spec : {M : Type 1} → statement M
-extra-good-spec = tie.close (tie.spec read2-requires returns returns-2 read2-requires-2 returns-3 read8-requires returns-4 read8-requires-2 returns-5)
+extra-good-spec =
+    tie.close
+    (tie.spec
+    read2-requires
+    returns
+    returns-2
+    read2-requires-2
+    returns-3
+    read8-requires
+    returns-4
+    read8-requires-2
+    returns-5)

@@ -49,4 +49,13 @@ returns-4 c =
     ∙ not-false _ (c .if3 .left))))
 
 pub read-spec : {M : Type 1} → statement M
-read-spec = tie.close (tie.spec returns extra-good-requires returns-2 fields-requires record-good-requires returns-3 returns-4)
+read-spec =
+    tie.close
+    (tie.spec
+    returns
+    extra-good-requires
+    returns-2
+    fields-requires
+    record-good-requires
+    returns-3
+    returns-4)

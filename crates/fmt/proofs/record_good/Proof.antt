@@ -39,4 +39,12 @@ returns-3 c =
     (c .valid-good .ensures ∙ last _)
 
 pub record-good-spec : {M : Type 1} → statement M
-record-good-spec = tie.close (tie.spec size-good-requires returns samples-good-requires returns-2 valid-good-requires returns-3)
+record-good-spec =
+    tie.close
+    (tie.spec
+    size-good-requires
+    returns
+    samples-good-requires
+    returns-2
+    valid-good-requires
+    returns-3)
