@@ -3,9 +3,9 @@
 use mathlib.Core.Path.{_≡_, refl, sym, ap, ap₂, _∙_, subst}
 use mathlib.Core.Bool.{Bool, true, false}
 use mathlib.Core.List.{List}
-use Prim.Native.Nat.{ℕ, _+_, _*_, _%_, _≤_}
+use Prim.Native.Nat.{ℕ, _+_, _-_, _*_, _%_, _≤_}
 use native.Mathlib.Omega.{arith}
-use lib.ListN.{length}
+use lib.ListN.{length, take, drop}
 use lib.Dec.{eqb}
 use borrow.Author.Tests.{eq-eqb, ne-eqb}
 use Rattle.le.specs.Number.{number, field}
@@ -52,6 +52,24 @@ pub read-refused : (x : Answer Format) (r : Refusal) → readAs x ≡ reading.Re
 unfolding readAs
 read-refused (refused q) r e = cc
 read-refused (given g) r e = absurd (let z : _≡_ {A = ℕ} 0 1 = cc in omega arith)
+
+-- the part of the file that the reader was handed is the fmt payload
+same-part : (t : Tally) (s : List ℕ) (place size : ℕ) → place ≡ placeOf (t .fmt) → size ≡ sizeOf (t .fmt)
+    → take (place + size - place) (drop place s) ≡ field (sizeOf (t .fmt)) (placeOf (t .fmt)) s
+unfolding field
+same-part t s place size p q =
+    ap (λ (k : ℕ). take k (drop place s)) (let e : place + size - place ≡ size = omega arith in e)
+    ∙ ap₂ (λ (a n : ℕ). take n (drop a s)) p q
+
+pub format-told : (t : Tally) (s : List ℕ) (place size : ℕ) (f : Format) → place ≡ placeOf (t .fmt) → size ≡ sizeOf (t .fmt)
+    → readAs (formatIn (take (place + size - place) (drop place s))) ≡ reading.Record f
+    → formatIn (field (sizeOf (t .fmt)) (placeOf (t .fmt)) s) ≡ given f
+format-told t s place size f p q e = ap formatIn (sym (same-part t s place size p q)) ∙ read-given _ f e
+
+pub format-refused : (t : Tally) (s : List ℕ) (place size : ℕ) (r : Refusal) → place ≡ placeOf (t .fmt) → size ≡ sizeOf (t .fmt)
+    → readAs (formatIn (take (place + size - place) (drop place s))) ≡ reading.Refused r
+    → formatIn (field (sizeOf (t .fmt)) (placeOf (t .fmt)) s) ≡ refused r
+format-refused t s place size r p q e = ap formatIn (sym (same-part t s place size p q)) ∙ read-refused _ r e
 
 module _ (h : Head) (t : Tally) (n : ℕ) (s : List ℕ) where
   abbrev fmtPart : List ℕ
