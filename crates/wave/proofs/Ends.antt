@@ -32,7 +32,7 @@ use Rattle.wave.specs.declared.listing.Known.{Known}
 use Rattle.wave.specs.declared.listing.Survey.the-variants as survey
 use Rattle.wave.specs.Scans.{Scan, scan, rowsOf, walkFrom, walk32}
 use Rattle.wave.specs.Tallies.{metAs, metIn, tallyOf}
-use Rattle.wave.specs.Words.{scanTable, ScanDone, walkTable, WalkDone, List32, surveyOf}
+use Rattle.wave.specs.Words.{knownOf, scanTable, ScanDone, walkTable, WalkDone, List32, surveyOf}
 use Rattle.wave.proofs.Scanned.{scan-scanned}
 
 -- ---- what a survey tells
@@ -41,9 +41,6 @@ pub survey-refused : (x : Answer Scan) (r : Refusal) → surveyOf x ≡ survey.R
 unfolding surveyOf
 survey-refused (refused q) r e = cc
 survey-refused (given a) r e = absurd (let z : _≡_ {A = ℕ} 0 1 = cc in omega arith)
-
-abbrev pub knownOf : Scan → Known
-knownOf a = record { head = a .head; tally = tallyOf (a .rows); format = a .format; rows = length (a .rows) }
 
 pub record Accepts (x : Answer Scan) (k : Known) : Type 0 where
   pub scan : Scan

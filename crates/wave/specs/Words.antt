@@ -19,6 +19,7 @@ use Rattle.wave.specs.declared.Tabled.{Tabled}
 use Rattle.wave.specs.declared.Samples.{Samples}
 use Rattle.wave.specs.declared.Samples.the-variants as samples
 use Rattle.wave.specs.declared.tally.Tally.{Tally}
+use Rattle.wave.specs.declared.listing.Known.{Known}
 use Rattle.wave.specs.declared.listing.Listed.{Listed}
 use Rattle.wave.specs.declared.listing.Survey.{Survey}
 use Rattle.wave.specs.declared.listing.Survey.the-variants as survey
@@ -76,10 +77,12 @@ judgeOf h t n s =
     (survey.Refused Chunks)
 
 -- what is known of an accepted file besides its table
+abbrev pub knownOf : Scan → Known
+knownOf a = record { head = a .head; tally = tallyOf (a .rows); format = a .format; rows = length (a .rows) }
+
 unfoldable pub surveyOf : Answer Scan → Survey
 surveyOf (refused r) = survey.Refused r
-surveyOf (given a) =
-    survey.Accepted (record { head = a .head; tally = tallyOf (a .rows); format = a .format; rows = length (a .rows) })
+surveyOf (given a) = survey.Accepted (knownOf a)
 
 -- the scan: its answer and, of an accepted file, its table. Of a refused one the words are any
 pub record SurveyIs (s w : List ℕ) (r : Survey) (w' : List ℕ) : Type 0 where
