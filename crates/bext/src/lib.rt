@@ -1,0 +1,152 @@
+// The bext record: who made a recording, what it is, and when (001 4.3).
+//
+// A payload has at least 602 bytes: Description 256, Originator 32, Reference 32, date 10, time 8, TimeReference 8,
+// Version 2, then 254 bytes, then the coding history to the end. The texts stay in the payload: the record says how long
+// each is.
+use chunk::Refusal;
+ghost use mathlib.Core.Path.{_≡_};
+ghost use mathlib.Core.Bool.{_||_};
+ghost use Prim.Native.Nat.{_+_, _≤_};
+ghost use lib.ListN.{length, drop};
+ghost use Rattle.bext.specs.Records.{allZero, textOf, textGood, isDigit, twoDigits, isSeparator, partOf, dateGood, timeGood, restGood, bextIn, readAs};
+
+// A record by numbers.
+pub struct Bext {
+    // The lengths of the three texts.
+    pub description: u64,
+    pub originator: u64,
+    pub reference: u64,
+    // Whether date and time are set.
+    pub date: bool,
+    pub time: bool,
+    // Samples since midnight.
+    pub timeref: u64,
+    pub version: u64,
+    // The length of the coding history's text.
+    pub history: u64,
+}
+
+// What a reader answers.
+pub enum Reading {
+    Record(Bext),
+    // 13: a rule of bext is broken.
+    Refused(Refusal),
+}
+
+// How many bytes stand before the first zero.
+fn text_length(s: &[u8]) -> usize
+    ensures { λ r. ⌜ r ≡ length (textOf (now (s .entry))) ⌝ }
+{
+    let mut i = 0;
+    while i < s.len() {
+        if s[i] == 0 {
+            return i;
+        }
+        i += 1;
+    }
+    i
+}
+
+// Whether all bytes from a place on are zero.
+fn zero_from(s: &[u8], at: usize) -> bool
+    requires { ⌜ at ≤ length (now s) ⌝ }
+    ensures { λ r. ⌜ r ≡ allZero (drop at (now (s .entry))) ⌝ }
+{
+    let mut i = at;
+    while i < s.len() {
+        if s[i] != 0 {
+            return false;
+        }
+        i += 1;
+    }
+    true
+}
+
+// What a part of a payload holds.
+enum Part {
+    // So many bytes.
+    Length(u64),
+    // It breaks its rule.
+    Bad,
+}
+
+// The text in these bytes.
+fn text(s: &[u8]) -> Part
+    ensures { λ r. ⌜ r ≡ partOf (textGood (now (s .entry))) (length (textOf (now (s .entry)))) ⌝ }
+{
+    let n = text_length(s);
+    if zero_from(s, n) {
+        Part::Length(n as u64)
+    } else {
+        Part::Bad
+    }
+}
+
+fn digit(b: u8) -> bool
+    ensures { λ r. ⌜ r ≡ isDigit b ⌝ }
+{
+    0x30 <= b && b <= 0x39
+}
+
+// Two digits at a place, whose number lies from low to high.
+fn two_digits(s: &[u8], at: usize, low: u8, high: u8) -> bool
+    requires { ⌜ at + 2 ≤ length (now s) ⌝ }
+    ensures { λ r. ⌜ r ≡ twoDigits (now (s .entry)) at low high ⌝ }
+{
+    let a = s[at];
+    let b = s[at + 1];
+    if !digit(a) {
+        return false;
+    }
+    if !digit(b) {
+        return false;
+    }
+    let n = 10 * (a - 0x30) + (b - 0x30);
+    low <= n && n <= high
+}
+
+// Hyphen, underscore, colon, space or full stop.
+fn separator(b: u8) -> bool
+    ensures { λ r. ⌜ r ≡ isSeparator b ⌝ }
+{
+    match b {
+        0x2d | 0x5f | 0x3a | 0x20 | 0x2e => true,
+        _ => false,
+    }
+}
+
+// The rule for a date: yyyy?mm?dd.
+fn date_good(d: &[u8]) -> bool
+    requires { ⌜ length (now d) ≡ 10 ⌝ }
+    ensures { λ r. ⌜ r ≡ dateGood (now (d .entry)) ⌝ }
+{
+    two_digits(d, 0, 0, 99)
+        && two_digits(d, 2, 0, 99)
+        && separator(d[4])
+        && two_digits(d, 5, 1, 12)
+        && separator(d[7])
+        && two_digits(d, 8, 1, 31)
+}
+
+// The rule for a time: hh?mm?ss.
+fn time_good(t: &[u8]) -> bool
+    requires { ⌜ length (now t) ≡ 8 ⌝ }
+    ensures { λ r. ⌜ r ≡ timeGood (now (t .entry)) ⌝ }
+{
+    two_digits(t, 0, 0, 24)
+        && separator(t[2])
+        && two_digits(t, 3, 0, 59)
+        && separator(t[5])
+        && two_digits(t, 6, 0, 59)
+}
+
+// The rule for the bytes after Version.
+fn rest_good(version: u64, rest: &[u8]) -> bool
+    ensures { λ r. ⌜ r ≡ restGood version (now (rest .entry)) ⌝ }
+{
+    if version == 0 {
+        zero_from(rest, 0)
+    } else {
+        true
+    }
+}
