@@ -5,8 +5,8 @@ use mathlib.Core.Bool.{Bool, true, false}
 use mathlib.Core.List.{List, [], _∷_, _++_}
 use Prim.Native.Nat.{ℕ, zero, suc, _+_, _-_, _≤_, _<_}
 use native.Mathlib.Omega.{arith}
-use lib.ListN.{length, take, drop, getD, replicate}
-use lib.Seq.{drop-cons, drop-length}
+use lib.ListN.{length, take, drop, getD, replicate, length-drop}
+use lib.Seq.{drop-cons, drop-length, take-all}
 use lib.Dec.{eqb}
 use borrow.Author.Tests.{eq-eqb, ne-eqb}
 use Rattle.le.specs.Choice.{pick}
@@ -49,3 +49,7 @@ text-short (b ∷ s) = here (eqb b 0) (text-short s)
     here : (t : Bool) → length (textOf s) ≤ length s → length (pick t [] (b ∷ textOf s)) ≤ suc (length s)
     here true h = omega arith
     here false h = omega arith
+
+-- a part that goes to the end
+pub to-the-end : (n : ℕ) (s : List ℕ) → take (length s - n) (drop n s) ≡ drop n s
+to-the-end n s = take-all (length s - n) (drop n s) (rw (length-drop n s) (omega arith))

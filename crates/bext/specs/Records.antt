@@ -101,11 +101,9 @@ setOf d = pick (allZero d) [] d
 
 -- "at least 602 bytes: Description 256, Originator 32, Reference 32, date 10, time 8, TimeReference low 4 and high 4,
 -- Version 2, then 254 bytes, then the coding history to the end"
-unfoldable pub payloadGood : List ℕ → Bool
-unfolding every
-payloadGood p =
-    every
-    (leb 602 (length p)
+unfoldable pub rulesOf : List ℕ → List Bool
+rulesOf p =
+    leb 602 (length p)
     ∷ textGood (field 256 0 p)
     ∷ textGood (field 32 256 p)
     ∷ textGood (field 32 288 p)
@@ -113,7 +111,7 @@ payloadGood p =
     ∷ (allZero (field 8 330 p) || timeGood (field 8 330 p))
     ∷ restGood (number 2 346 p) (field 254 348 p)
     ∷ textGood (drop 602 p)
-    ∷ [])
+    ∷ []
 
 unfoldable pub wholeIn : List ℕ → Whole
 wholeIn p =
@@ -132,7 +130,7 @@ wholeIn p =
 -- the record that a payload holds, or 13
 unfoldable pub bextIn : List ℕ → Answer Whole
 unfolding check
-bextIn p = check (payloadGood p) BadBext (given (wholeIn p))
+bextIn p = check (every (rulesOf p)) BadBext (given (wholeIn p))
 
 -- the record by numbers: how long each text is, and whether date and time are set
 unfoldable pub numbersOf : Whole → Bext

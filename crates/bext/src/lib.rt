@@ -8,7 +8,7 @@ ghost use mathlib.Core.Path.{_≡_};
 ghost use mathlib.Core.Bool.{_||_};
 ghost use Prim.Native.Nat.{_+_, _≤_};
 ghost use lib.ListN.{length, drop};
-ghost use Rattle.bext.specs.Records.{allZero, textOf, textGood, isDigit, twoDigits, isSeparator, partOf, dateGood, timeGood, restGood, bextIn, readAs};
+ghost use Rattle.bext.specs.Records.{allZero, textOf, textGood, isDigit, twoDigits, isSeparator, partOf, dateGood, timeGood, restGood, setOf, bextIn, readAs};
 
 // A record by numbers.
 pub struct Bext {
@@ -24,6 +24,25 @@ pub struct Bext {
     pub version: u64,
     // The length of the coding history's text.
     pub history: u64,
+}
+
+impl Bext {
+    // Where each part of a payload starts; Description starts it.
+    const ORIGINATOR: usize = 256;
+
+    const REFERENCE: usize = 288;
+
+    const DATE: usize = 320;
+
+    const TIME: usize = 330;
+
+    const TIMEREF: usize = 338;
+
+    const VERSION: usize = 346;
+
+    const REST: usize = 348;
+
+    const HISTORY: usize = 602;
 }
 
 // What a reader answers.
@@ -149,4 +168,75 @@ fn rest_good(version: u64, rest: &[u8]) -> bool
     } else {
         true
     }
+}
+
+// The date in these 10 bytes, which holds none where they are all zero.
+fn date(d: &[u8]) -> Part
+    requires { ⌜ length (now d) ≡ 10 ⌝ }
+    ensures { λ r. ⌜ r ≡ partOf (allZero (now (d .entry)) || dateGood (now (d .entry))) (length (setOf (now (d .entry)))) ⌝ }
+{
+    if zero_from(d, 0) {
+        return Part::Length(0);
+    }
+    if date_good(d) {
+        Part::Length(10)
+    } else {
+        Part::Bad
+    }
+}
+
+// The time in these 8 bytes, which holds none where they are all zero.
+fn time(t: &[u8]) -> Part
+    requires { ⌜ length (now t) ≡ 8 ⌝ }
+    ensures { λ r. ⌜ r ≡ partOf (allZero (now (t .entry)) || timeGood (now (t .entry))) (length (setOf (now (t .entry)))) ⌝ }
+{
+    if zero_from(t, 0) {
+        return Part::Length(0);
+    }
+    if time_good(t) {
+        Part::Length(8)
+    } else {
+        Part::Bad
+    }
+}
+
+// The record of a payload, which may be any bytes at all.
+pub fn read(payload: &[u8]) -> Reading
+    ensures { λ r. ⌜ r ≡ readAs (bextIn (now (payload .entry))) ⌝ }
+{
+    if payload.len() < Bext::HISTORY {
+        return Reading::Refused(Refusal::BadBext);
+    }
+    let Part::Length(description) = text(&payload[0..Bext::ORIGINATOR]) else {
+        return Reading::Refused(Refusal::BadBext);
+    };
+    let Part::Length(originator) = text(&payload[Bext::ORIGINATOR..Bext::REFERENCE]) else {
+        return Reading::Refused(Refusal::BadBext);
+    };
+    let Part::Length(reference) = text(&payload[Bext::REFERENCE..Bext::DATE]) else {
+        return Reading::Refused(Refusal::BadBext);
+    };
+    let Part::Length(date) = date(&payload[Bext::DATE..Bext::TIME]) else {
+        return Reading::Refused(Refusal::BadBext);
+    };
+    let Part::Length(time) = time(&payload[Bext::TIME..Bext::TIMEREF]) else {
+        return Reading::Refused(Refusal::BadBext);
+    };
+    let version = le::read2(payload, Bext::VERSION);
+    if !rest_good(version, &payload[Bext::REST..Bext::HISTORY]) {
+        return Reading::Refused(Refusal::BadBext);
+    }
+    let Part::Length(history) = text(&payload[Bext::HISTORY..]) else {
+        return Reading::Refused(Refusal::BadBext);
+    };
+    Reading::Record(Bext {
+        description,
+        originator,
+        reference,
+        date: date != 0,
+        time: time != 0,
+        timeref: le::read8(payload, Bext::TIMEREF),
+        version,
+        history,
+    })
 }
