@@ -2,3 +2,5 @@ pub mod Tests
 pub mod Texts
 pub mod Digits
 pub mod Answers
+pub mod Stores
+pub mod Outs

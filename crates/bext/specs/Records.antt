@@ -1,12 +1,12 @@
--- Document 01, "bext" (001 4.3): the record that a payload holds, or 13; the payload of a record, or 16.
-use Prim.Native.Nat.{ℕ, _+_, _-_, _*_, _^_}
+-- Document 01, "bext" (001 4.3): the record that a payload holds, or 13.
+use Prim.Native.Nat.{ℕ, _+_, _-_, _*_}
 use mathlib.Core.Bool.{Bool, true, false, not, _&&_, _||_}
-use mathlib.Core.List.{List, [], _∷_, _++_}
-use lib.ListN.{length, drop, getD, replicate}
-use lib.Dec.{eqb, leb, ltb}
-use Rattle.le.specs.Number.{bytes, field, number}
+use mathlib.Core.List.{List, [], _∷_}
+use lib.ListN.{length, drop, getD}
+use lib.Dec.{eqb, leb}
+use Rattle.le.specs.Number.{field, number}
 use Rattle.le.specs.Choice.{pick, every}
-use Rattle.chunk.specs.declared.Refusal.the-variants.{BadBext, BadRecord}
+use Rattle.chunk.specs.declared.Refusal.the-variants.{BadBext}
 use Rattle.chunk.specs.Refusals.{Answer, refused, given, check}
 use Rattle.bext.specs.declared.Bext.{Bext}
 use Rattle.bext.specs.declared.Reading.{Reading}
@@ -150,53 +150,3 @@ numbersOf w =
 unfoldable pub readAs : Answer Whole → Reading
 readAs (refused r) = reading.Refused r
 readAs (given w) = reading.Record (numbersOf w)
-
--- ---- writing
-
--- a text of at most n bytes, none of them zero
-unfoldable pub textGiven : ℕ → List ℕ → Bool
-unfolding every
-textGiven n t = every (leb (length t) n ∷ eqb (length (textOf t)) (length t) ∷ [])
-
--- a record that a payload could hold
-unfoldable pub wholeGood : Whole → Bool
-unfolding every
-wholeGood w =
-    every
-    (textGiven 256 (w .description)
-    ∷ textGiven 32 (w .originator)
-    ∷ textGiven 32 (w .reference)
-    ∷ (eqb (length (w .date)) 0 || eqb (length (w .date)) 10 && dateGood (w .date))
-    ∷ (eqb (length (w .time)) 0 || eqb (length (w .time)) 8 && timeGood (w .time))
-    ∷ ltb (w .timeref) (256 ^ 8)
-    ∷ ltb (w .version) (256 ^ 2)
-    ∷ eqb (length (w .rest)) 254
-    ∷ restGood (w .version) (w .rest)
-    ∷ textGood (w .history)
-    ∷ [])
-
--- a text and zeros after it, n bytes in all
-unfoldable pub padded : ℕ → List ℕ → List ℕ
-padded n t = t ++ replicate (n - length t) 0
-
-unfoldable pub laid : Whole → List ℕ
-laid w =
-    padded 256 (w .description)
-    ++ padded 32 (w .originator)
-    ++ padded 32 (w .reference)
-    ++ padded 10 (w .date)
-    ++ padded 8 (w .time)
-    ++ bytes 8 (w .timeref)
-    ++ bytes 2 (w .version)
-    ++ w .rest
-    ++ w .history
-
--- the payload of a record, or 16
-unfoldable pub bextOut : Whole → Answer (List ℕ)
-unfolding check
-bextOut w = check (wholeGood w) BadRecord (given (laid w))
-
--- the 254 bytes that a writer is given: none at all stand for zeros
-unfoldable pub restOf : List ℕ → List ℕ
-unfolding pick
-restOf rest = pick (eqb (length rest) 0) (replicate 254 0) rest

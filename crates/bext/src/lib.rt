@@ -4,11 +4,14 @@
 // Version 2, then 254 bytes, then the coding history to the end. The texts stay in the payload: the record says how long
 // each is.
 use chunk::Refusal;
+use chunk::Written;
 ghost use mathlib.Core.Path.{_≡_};
 ghost use mathlib.Core.Bool.{_||_};
 ghost use Prim.Native.Nat.{_+_, _≤_};
-ghost use lib.ListN.{length, drop};
+ghost use lib.ListN.{length, drop, replicate};
+ghost use lib.Seq.{sets};
 ghost use Rattle.bext.specs.Records.{allZero, textOf, textGood, isDigit, twoDigits, isSeparator, partOf, dateGood, timeGood, restGood, setOf, bextIn, readAs};
+ghost use Rattle.bext.specs.Writing.{textGiven, dateGiven, timeGiven, restGiven, restOf, padded, writable, asked, laid, Fitting, Writes};
 
 // A record by numbers.
 pub struct Bext {
@@ -87,6 +90,13 @@ enum Part {
     Length(u64),
     // It breaks its rule.
     Bad,
+}
+
+// Whether these bytes are a text, and zeros after it.
+fn text_good(s: &[u8]) -> bool
+    ensures { λ r. ⌜ r ≡ textGood (now (s .entry)) ⌝ }
+{
+    zero_from(s, text_length(s))
 }
 
 // The text in these bytes.
@@ -239,4 +249,181 @@ pub fn read(payload: &[u8]) -> Reading
         version,
         history,
     })
+}
+
+// Whether a text to write has at most n bytes, none of them zero.
+fn text_given(t: &[u8], n: usize) -> bool
+    ensures { λ r. ⌜ r ≡ textGiven n (now (t .entry)) ⌝ }
+{
+    t.len() <= n && text_length(t) == t.len()
+}
+
+// Whether a date to write is good, or not set.
+fn date_given(d: &[u8]) -> bool
+    ensures { λ r. ⌜ r ≡ dateGiven (now (d .entry)) ⌝ }
+{
+    if d.len() == 0 {
+        return true;
+    }
+    if d.len() != 10 {
+        return false;
+    }
+    date_good(d)
+}
+
+// Whether a time to write is good, or not set.
+fn time_given(t: &[u8]) -> bool
+    ensures { λ r. ⌜ r ≡ timeGiven (now (t .entry)) ⌝ }
+{
+    if t.len() == 0 {
+        return true;
+    }
+    if t.len() != 8 {
+        return false;
+    }
+    time_good(t)
+}
+
+// Whether the bytes after Version to write are good; none stand for zeros.
+fn rest_given(version: u64, rest: &[u8]) -> bool
+    ensures { λ r. ⌜ r ≡ restGiven version (restOf (now (rest .entry))) ⌝ }
+{
+    if rest.len() == 0 {
+        return true;
+    }
+    if rest.len() != 254 {
+        return false;
+    }
+    rest_good(version, rest)
+}
+
+// Puts these bytes at a place.
+fn put(s: &[u8], out: &mut [u8], at: usize)
+    requires { ⌜ at + length (now s) ≤ length (now out) ⌝ }
+    ensures { λ _. ⌜ now (out .exit) ≡ sets (now (out .entry)) at (now (s .entry)) ⌝ }
+{
+    let mut i = 0;
+    while i < s.len() {
+        out[at + i] = s[i];
+        i += 1;
+    }
+}
+
+// Puts n zeros at a place.
+fn clear(out: &mut [u8], at: usize, n: usize)
+    requires { ⌜ at + n ≤ length (now out) ⌝ }
+    ensures { λ _. ⌜ now (out .exit) ≡ sets (now (out .entry)) at (replicate n 0) ⌝ }
+{
+    let mut i = 0;
+    while i < n {
+        out[at + i] = 0;
+        i += 1;
+    }
+}
+
+// Puts a text at a place, and zeros after it, n bytes in all.
+fn put_text(t: &[u8], out: &mut [u8], at: usize, n: usize)
+    requires { ⌜ (length (now t) ≤ n) × (at + n ≤ length (now out)) ⌝ }
+    ensures { λ _. ⌜ now (out .exit) ≡ sets (now (out .entry)) at (padded n (now (t .entry))) ⌝ }
+{
+    put(t, out, at);
+    clear(out, at + t.len(), n - t.len());
+}
+
+// Whether a record could have been read.
+fn record_good(
+    description: &[u8],
+    originator: &[u8],
+    reference: &[u8],
+    date: &[u8],
+    time: &[u8],
+    version: u64,
+    rest: &[u8],
+    history: &[u8],
+) -> bool
+    ensures { λ r. ⌜ r ≡ writable (asked (now (description .entry)) (now (originator .entry)) (now (reference .entry)) (now (date .entry)) (now (time .entry)) 0 version (now (rest .entry)) (now (history .entry))) ⌝ }
+{
+    text_given(description, 256)
+        && text_given(originator, 32)
+        && text_given(reference, 32)
+        && date_given(date)
+        && time_given(time)
+        && version < 0x1_0000
+        && rest_given(version, rest)
+        && text_good(history)
+}
+
+// Stores a record that could have been read, its payload at the start of out.
+fn store(
+    description: &[u8],
+    originator: &[u8],
+    reference: &[u8],
+    date: &[u8],
+    time: &[u8],
+    timeref: u64,
+    version: u64,
+    rest: &[u8],
+    history: &[u8],
+    out: &mut [u8],
+)
+    requires { ⌜ Fitting (asked (now description) (now originator) (now reference) (now date) (now time) timeref version (now rest) (now history)) × (602 + length (now history) ≤ length (now out)) ⌝ }
+    ensures { λ _. ⌜ now (out .exit) ≡ sets (now (out .entry)) 0 (laid (asked (now (description .entry)) (now (originator .entry)) (now (reference .entry)) (now (date .entry)) (now (time .entry)) timeref version (now (rest .entry)) (now (history .entry)))) ⌝ }
+{
+    put_text(description, out, 0, 256);
+    put_text(originator, out, Bext::ORIGINATOR, 32);
+    put_text(reference, out, Bext::REFERENCE, 32);
+    put_text(date, out, Bext::DATE, 10);
+    put_text(time, out, Bext::TIME, 8);
+    le::store8(out, Bext::TIMEREF, timeref);
+    le::store2(out, Bext::VERSION, version);
+    put_text(rest, out, Bext::REST, 254);
+    put(history, out, Bext::HISTORY);
+}
+
+// Writes a record's payload at the start of out. The three texts come without the zeros after them, the history with its
+// own, if any; an empty date or time is not set; rest is the 254 bytes after Version, or empty for zeros. A refusal
+// changes no byte: 16 for a record that could not have been read, then 15 where out is too short.
+pub fn write(
+    description: &[u8],
+    originator: &[u8],
+    reference: &[u8],
+    date: &[u8],
+    time: &[u8],
+    timeref: u64,
+    version: u64,
+    rest: &[u8],
+    history: &[u8],
+    out: &mut [u8],
+) -> Written
+    ensures { λ r. ⌜ Writes (asked (now (description .entry)) (now (originator .entry)) (now (reference .entry)) (now (date .entry)) (now (time .entry)) timeref version (now (rest .entry)) (now (history .entry))) (now (out .entry)) (now (out .exit)) r ⌝ }
+{
+    if !record_good(
+        description,
+        originator,
+        reference,
+        date,
+        time,
+        version,
+        rest,
+        history,
+    ) {
+        return Written::Refused(Refusal::BadRecord);
+    }
+    let size = Bext::HISTORY + history.len();
+    if out.len() < size {
+        return Written::Refused(Refusal::NoRoom);
+    }
+    store(
+        description,
+        originator,
+        reference,
+        date,
+        time,
+        timeref,
+        version,
+        rest,
+        history,
+        out,
+    );
+    Written::Bytes(size as u64)
 }

@@ -74,7 +74,7 @@ bytes-append zero m v = rw (zero-add, pow-zero, div-one)
 bytes-append (suc n) m v =
     rw (suc-add, pow-succ' 256 n, ← (div-div-eq-div-mul v 256 (256 ^ n)), bytes-append n m (v / 256))
 
-sets-append : (xs ys s : List ℕ) (at : ℕ) → sets s at (xs ++ ys) ≡ sets (sets s at xs) (at + length xs) ys
+pub sets-append : (xs ys s : List ℕ) (at : ℕ) → sets s at (xs ++ ys) ≡ sets (sets s at xs) (at + length xs) ys
 sets-append [] ys s at = rw add-zero
 sets-append (x ∷ xs) ys s at = rw (add-suc, ← (suc-add at (length xs))) (sets-append xs ys (set s at x) (suc at))
 
