@@ -4,3 +4,5 @@ pub mod Digits
 pub mod Answers
 pub mod Stores
 pub mod Outs
+pub mod Stamps
+pub mod RoundTrip
