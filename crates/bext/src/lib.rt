@@ -302,10 +302,10 @@ fn put(s: &[u8], out: &mut [u8], at: usize)
     requires { ⌜ at + length (now s) ≤ length (now out) ⌝ }
     ensures { λ _. ⌜ now (out .exit) ≡ sets (now (out .entry)) at (now (s .entry)) ⌝ }
 {
-    let mut i = 0;
-    while i < s.len() {
-        out[at + i] = s[i];
-        i += 1;
+    let mut done = 0;
+    while done < s.len() {
+        out[at + done] = s[done];
+        done += 1;
     }
 }
 
