@@ -36,6 +36,13 @@ no x a b e f = sym (e ∙ fails a b f)
 pub yes : (x a b : Bool) → x ≡ both a b → a ≡ true → x ≡ b
 yes x a b e f = e ∙ holds a b f
 
+-- a number that was read, compared
+pub equal : {r m k : ℕ} → r ≡ m → r ≡ k → eqb m k ≡ true
+equal {m = m} {k = k} p q = eq-eqb m k (sym p ∙ q)
+
+pub unequal : {r m k : ℕ} → r ≡ m → (r ≡ k → ⊥) → eqb m k ≡ false
+unequal {m = m} {k = k} p q = ne-eqb m k (λ (e : m ≡ k). q (p ∙ e))
+
 itself : (b : Bool) → both b true ≡ b
 unfolding pick
 itself true = refl
@@ -75,9 +82,19 @@ one : (p at : ℕ) (s : List ℕ) → at < length s → fits (p ∷ []) (field 1
 unfolding fits
 one p at s h = ap (fits (p ∷ [])) (field-one at s h) ∙ itself (fitsOne p (getD s at 0))
 
-pub hex-one : (at : ℕ) (s : List ℕ) → at < length s → fits (hexes 1) (field 1 at s) ≡ isHex (getD s at 0)
+pub two-hex : (at : ℕ) (s : List ℕ) → at + 2 ≤ length s
+    → fits (hexes 2) (field 2 at s) ≡ both (isHex (getD s at 0)) (isHex (getD s (at + 1) 0))
 unfolding fitsOne pick
-hex-one at s h = one 0x78 at s h
+two-hex at s h =
+    fits-split (hexes 1) (hexes 1) at s (omega arith)
+    ∙ ap₂ both (one 0x78 at s (omega arith)) (one 0x78 (at + 1) s (omega arith))
+
+pub under-hex : (at : ℕ) (s : List ℕ) → at + 9 ≤ length s
+    → fits (0x5F ∷ hexes 8) (field 9 at s) ≡ both (eqb (getD s at 0) 0x5F) (fits (hexes 8) (field 8 (at + 1) s))
+unfolding fitsOne pick
+under-hex at s h =
+    fits-split (0x5F ∷ []) (hexes 8) at s (omega arith)
+    ∙ ap (λ (t : Bool). both t (fits (hexes 8) (field 8 (at + 1) s))) (one 0x5F at s (omega arith))
 
 -- ---- a part with no x
 
@@ -148,28 +165,28 @@ module _ (e : List ℕ) (h : Bytes e) (n : length e ≡ 40) where
   pub track-tests : fits TRACK (field 14 14 e)
       ≡ both (eqb (number 2 14 e) 0x5441)
       (both (fits (0x5F ∷ hexes 8) (field 9 16 e))
-      (both (eqb (number 1 25 e) 0x5F) (fits (hexes 2) (field 2 26 e))))
-  unfolding codes value plain
+      (both (eqb (getD e 25 0) 0x5F) (fits (hexes 2) (field 2 26 e))))
+  unfolding codes value plain fitsOne pick
   track-tests =
       fits-split (codes "AT") (codes "_xxxxxxxx_xx") 14 e (omega arith)
       ∙ ap₂ both (text-at (codes "AT") 14 e refl h (omega arith))
       (fits-split (0x5F ∷ hexes 8) (codes "_xx") 16 e (omega arith)
       ∙ ap (both (fits (0x5F ∷ hexes 8) (field 9 16 e)))
       (fits-split (codes "_") (hexes 2) 25 e (omega arith)
-      ∙ ap (λ (t : Bool). both t (fits (hexes 2) (field 2 26 e))) (text-at (codes "_") 25 e refl h (omega arith))))
+      ∙ ap (λ (t : Bool). both t (fits (hexes 2) (field 2 26 e))) (one 0x5F 25 e (omega arith))))
 
   pub channel-tests : fits CHANNEL (field 14 14 e)
       ≡ both (eqb (number 2 14 e) 0x4341)
       (both (fits (0x5F ∷ hexes 8) (field 9 16 e))
-      (both (eqb (number 1 25 e) 0x5F) (eqb (number 2 26 e) 0x3030)))
-  unfolding codes value plain
+      (both (eqb (getD e 25 0) 0x5F) (eqb (number 2 26 e) 0x3030)))
+  unfolding codes value plain fitsOne pick
   channel-tests =
       fits-split (codes "AC") (codes "_xxxxxxxx_00") 14 e (omega arith)
       ∙ ap₂ both (text-at (codes "AC") 14 e refl h (omega arith))
       (fits-split (0x5F ∷ hexes 8) (codes "_00") 16 e (omega arith)
       ∙ ap (both (fits (0x5F ∷ hexes 8) (field 9 16 e)))
       (fits-split (codes "_") (codes "00") 25 e (omega arith)
-      ∙ ap₂ both (text-at (codes "_") 25 e refl h (omega arith)) (text-at (codes "00") 26 e refl h (omega arith))))
+      ∙ ap₂ both (one 0x5F 25 e (omega arith)) (text-at (codes "00") 26 e refl h (omega arith))))
 
   pub pack-tests : fits PACK (field 11 28 e) ≡ both (eqb (number 2 28 e) 0x5041) (fits (0x5F ∷ hexes 8) (field 9 30 e))
   unfolding codes value plain
@@ -178,13 +195,13 @@ module _ (e : List ℕ) (h : Bytes e) (n : length e ≡ 40) where
       ∙ ap (λ (t : Bool). both t (fits (0x5F ∷ hexes 8) (field 9 30 e))) (text-at (codes "AP") 28 e refl h (omega arith))
 
   pub nopack-tests : fits NOPACK (field 11 28 e)
-      ≡ both (eqb (number 8 28 e) 0) (both (eqb (number 2 36 e) 0) (eqb (number 1 38 e) 0))
-  unfolding value plain
+      ≡ both (eqb (number 8 28 e) 0) (both (eqb (number 2 36 e) 0) (eqb (getD e 38 0) 0))
+  unfolding value plain fitsOne pick
   nopack-tests =
       fits-split (replicate 8 0) (replicate 3 0) 28 e (omega arith)
       ∙ ap₂ both (text-at (replicate 8 0) 28 e refl h (omega arith))
       (fits-split (replicate 2 0) (replicate 1 0) 36 e (omega arith)
-      ∙ ap₂ both (text-at (replicate 2 0) 36 e refl h (omega arith)) (text-at (replicate 1 0) 38 e refl h (omega arith)))
+      ∙ ap₂ both (text-at (replicate 2 0) 36 e refl h (omega arith)) (one 0 38 e (omega arith)))
 
   pub unused-tests : fits UNUSED e
       ≡ both (eqb (number 8 0 e) 0)

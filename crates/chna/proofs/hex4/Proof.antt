@@ -1,29 +1,35 @@
+-- `chna::hex4` meets its contract: its digits are 2 and 2.
+-- Assumes nothing.
+use mathlib.Core.Path.{_∙_, sym}
+use native.Mathlib.Omega.{arith}
+use borrow.Author.Tests.{not-true, not-false}
+use Rattle.chna.specs.Ids.{hexes}
+use Rattle.chna.proofs.Patterns.{no, yes, fits-split}
 use borrow.Author.Needs.{needs}
 use Rattle.chna.proofs.hex4.Statement.{statement}
 use Rattle.chna.proofs.hex4.Tie as tie
-use Rattle.chna.proofs.hex4.Reads as reads
-use Rattle.chna.proofs.hex4.Lts as lts
-use Rattle.chna.proofs.hex2.Reads as hex2-reads
 
--- src/lib.rt:66:9
 hex2-requires : tie.Need-hex2-requires
 hex2-requires c κs = search needs
 
--- src/lib.rt:67:9
 returns : tie.Need-returns
-returns c = ?
+returns c =
+    let s = c .before .before .before in
+    no _ _ _ (fits-split (hexes 2) (hexes 2) (s .args .at) (s .args .s .now) (omega arith))
+    (sym (c .before .hex2 .ensures) ∙ not-true (c .before .hex2 .result) (c .if1 .taken))
 
--- src/lib.rt:69:13
 add-hex2 : tie.Need-add-hex2
 add-hex2 c = search needs
 
--- src/lib.rt:69:5
 hex2-requires-2 : tie.Need-hex2-requires-2
 hex2-requires-2 c κs = search needs
 
--- src/lib.rt:62:1
 returns-2 : tie.Need-returns-2
-returns-2 c = ?
+returns-2 c =
+    let s = c .before .before .before .before in
+    c .hex22 .ensures
+    ∙ sym (yes _ _ _ (fits-split (hexes 2) (hexes 2) (s .args .at) (s .args .s .now) (omega arith))
+    (sym (c .before .before .hex2 .ensures) ∙ not-false (c .before .before .hex2 .result) (c .before .if1 .left)))
 
 pub hex4-spec : {M : Type 1} → statement M
 hex4-spec = tie.close (tie.spec hex2-requires returns add-hex2 hex2-requires-2 returns-2)

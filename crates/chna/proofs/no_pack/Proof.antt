@@ -1,34 +1,47 @@
+-- `chna::no_pack` meets its contract: zero bytes are the number 0.
+-- Assumes nothing.
+use mathlib.Core.Path.{_∙_, sym, ap, refl}
+use native.Mathlib.Omega.{arith}
+use Rattle.le.specs.Number.{Bytes}
+use Rattle.chna.proofs.Patterns.{no, yes, equal, unequal, nopack-tests}
 use borrow.Author.Needs.{needs}
 use Rattle.chna.proofs.no_pack.Statement.{statement}
 use Rattle.chna.proofs.no_pack.Tie as tie
-use Rattle.chna.proofs.no_pack.Reads as reads
-use Rattle.chna.proofs.no_pack.Lts as lts
-use Rattle.le.proofs.read2.Reads as read2-reads
-use Rattle.le.proofs.read8.Reads as read8-reads
 
--- src/lib.rt:157:8
 read8-requires : tie.Need-read8-requires
 read8-requires c κs = search needs
 
--- src/lib.rt:158:9
 returns : tie.Need-returns
-returns c = ?
+unfolding Bytes
+returns c =
+    no _ _ _
+    (nopack-tests (c .before .before .before .args .e .now) (λ i. omega (arith, c .before .before .shared-slice-known .given i)) (c .before .before .before .pre))
+    (unequal (c .before .read8 .ensures .is) (c .if1 .taken))
 
--- src/lib.rt:160:8
 read2-requires : tie.Need-read2-requires
 read2-requires c κs = search needs
 
--- src/lib.rt:161:9
 returns-2 : tie.Need-returns-2
-returns-2 c = ?
+unfolding Bytes
+returns-2 c =
+    no _ _ _
+    (yes _ _ _
+    (nopack-tests (c .before .before .before .before .before .args .e .now) (λ i. omega (arith, c .before .before .before .before .shared-slice-known .given i)) (c .before .before .before .before .before .pre))
+    (equal (c .before .before .before .read8 .ensures .is) (c .before .before .if1 .left)))
+    (unequal (c .before .read2 .ensures .is) (c .if2 .taken))
 
--- src/lib.rt:163:5
 shared-slice-read-result : tie.Need-shared-slice-read-result
 shared-slice-read-result c = search needs
 
--- src/lib.rt:153:1
 returns-3 : tie.Need-returns-3
-returns-3 c = ?
+unfolding Bytes
+returns-3 c =
+    refl
+    ∙ sym (yes _ _ _
+    (yes _ _ _
+    (nopack-tests (c .before .before .before .before .before .before .args .e .now) (λ i. omega (arith, c .before .before .before .before .before .shared-slice-known .given i)) (c .before .before .before .before .before .before .pre))
+    (equal (c .before .before .before .before .read8 .ensures .is) (c .before .before .before .if1 .left)))
+    (equal (c .before .before .read2 .ensures .is) (c .before .if2 .left)))
 
 pub no-pack-spec : {M : Type 1} → statement M
 no-pack-spec =
