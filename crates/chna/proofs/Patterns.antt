@@ -43,7 +43,7 @@ equal {m = m} {k = k} p q = eq-eqb m k (sym p ∙ q)
 pub unequal : {r m k : ℕ} → r ≡ m → (r ≡ k → ⊥) → eqb m k ≡ false
 unequal {m = m} {k = k} p q = ne-eqb m k (λ (e : m ≡ k). q (p ∙ e))
 
-itself : (b : Bool) → both b true ≡ b
+pub itself : (b : Bool) → both b true ≡ b
 unfolding pick
 itself true = refl
 itself false = refl
