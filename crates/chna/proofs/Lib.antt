@@ -1,2 +1,4 @@
 pub mod Patterns
 pub mod Entries
+pub mod Marks
+pub mod Counts

@@ -255,10 +255,10 @@ fn whole_good(entries: &[u8], tracks: u64, uids: u64, channels: u64) -> bool
             used += 1;
         }
     }
-    if used != uids {
+    if uids != used {
         return false;
     }
-    different == tracks
+    tracks == different
 }
 
 // The record of a payload, which may be any bytes at all, in a file of so many channels.
