@@ -2,3 +2,4 @@ pub mod Patterns
 pub mod Entries
 pub mod Marks
 pub mod Counts
+pub mod Answers
