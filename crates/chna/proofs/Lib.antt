@@ -3,3 +3,4 @@ pub mod Entries
 pub mod Marks
 pub mod Counts
 pub mod Answers
+pub mod Pads

@@ -1,5 +1,6 @@
 -- Document 01, "chna" (002 8): the record that a payload holds, or 14; the payload of a record, or 16.
 use Prim.Native.Nat.{ℕ, zero, suc, _-_, _/_, _%_}
+use mathlib.Core.Path.{_≡_}
 use mathlib.Core.Bool.{Bool, true, false, _&&_, _||_}
 use mathlib.Core.List.{List, [], _∷_, _++_}
 use lib.ListN.{length, take, drop, set, replicate}
@@ -7,7 +8,9 @@ use lib.Dec.{eqb, leb, ltb}
 use Rattle.le.specs.Number.{bytes, field, number}
 use Rattle.le.specs.Choice.{pick, every}
 use Rattle.chunk.specs.declared.Refusal.the-variants.{BadChna, BadRecord}
+use Rattle.chunk.specs.declared.Written.{Written}
 use Rattle.chunk.specs.Refusals.{Answer, refused, given, check}
+use Rattle.chunk.specs.Writes.{fitting, writtenOf, outputOf}
 use Rattle.chna.specs.Ids.{fits, UNUSED, UID, TRACK, CHANNEL, PACK, NOPACK}
 use Rattle.chna.specs.declared.Chna.{Chna}
 use Rattle.chna.specs.declared.Reading.{Reading}
@@ -164,13 +167,21 @@ unfoldable pub chnaFrom : ℕ → ℕ → ℕ → List ℕ → Answer (List ℕ)
 unfolding check
 chnaFrom channels tracks uids s = check (eqb (length s % 40) 0) BadRecord (chnaOut channels (wholeOf tracks uids s))
 
--- ---- a payload carried
+-- what the writer answers and leaves in its output
+pub record Writes (a : Answer (List ℕ)) (entry exit : List ℕ) (r : Written) : Type 0 where
+  pub answers : r ≡ writtenOf (fitting entry a)
+  pub leaves : exit ≡ outputOf entry (fitting entry a)
 
--- the first n entries with byte 39 of each zero
-unfoldable pub padsOff : ℕ → List ℕ → List ℕ
-padsOff zero s = s
-padsOff (suc n) s = set (take 40 s) 39 0 ++ padsOff n (drop 40 s)
+-- ---- pads
 
--- a payload with its pads zero: "the file writer zeroes it too"
+-- the first n entries with byte 39 of each as zero, and the rest
+unfoldable pub padsAt : ℕ → List ℕ → List ℕ
+padsAt zero s = s
+padsAt (suc n) s = set (take 40 s) 39 0 ++ padsAt n (drop 40 s)
+
+unfoldable pub padsOff : List ℕ → List ℕ
+padsOff s = padsAt (length s / 40) s
+
+-- a payload with its pads as zero: "the file writer zeroes it too"
 unfoldable pub padsZeroed : List ℕ → List ℕ
-padsZeroed p = take 4 p ++ padsOff (length p / 40) (drop 4 p)
+padsZeroed p = take 4 p ++ padsOff (drop 4 p)

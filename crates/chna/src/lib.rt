@@ -7,11 +7,11 @@ use chunk::Written;
 ghost use mathlib.Core.Path.{_≡_};
 ghost use mathlib.Core.List.{_++_, _∷_};
 ghost use Prim.Native.Nat.{_+_, _/_, _%_, _^_, _≤_, _<_};
-ghost use lib.ListN.{length};
+ghost use lib.ListN.{length, drop};
 ghost use lib.Bits.{bitOr};
 ghost use Rattle.le.specs.Number.{field, bytes};
 ghost use Rattle.chna.specs.Ids.{isHex, fits, hexes, UNUSED, UID, TRACK, CHANNEL, PACK, NOPACK};
-ghost use Rattle.chna.specs.Records.{usedIn, usedGood, wholeOf, wholeGood, chnaIn, readAs};
+ghost use Rattle.chna.specs.Records.{usedIn, usedGood, wholeOf, wholeGood, chnaIn, readAs, chnaFrom, Writes, padsOff, padsZeroed};
 
 // A record: its two counts and how many entries it has.
 pub struct Chna {
@@ -282,4 +282,57 @@ pub fn read(payload: &[u8], channels: u64) -> Reading
         uids,
         entries: (size / 40) as u64,
     })
+}
+
+// Sets the pad of each entry to zero.
+fn zero_pads(entries: &mut [u8])
+    ensures { λ _. ⌜ now (entries .exit) ≡ padsOff (now (entries .entry)) ⌝ }
+{
+    let count = entries.len() / 40;
+    let mut i = 0;
+    while i < count {
+        let at = i * 40 + 39;
+        entries[at] = 0;
+        i += 1;
+    }
+}
+
+// Copies entries to the start of out, the pad of each as zero.
+fn copy_entries(entries: &[u8], out: &mut [u8])
+    requires { ⌜ length (now entries) ≤ length (now out) ⌝ }
+    ensures { λ _. ⌜ now (out .exit) ≡ padsOff (now (entries .entry)) ++ drop (length (now (entries .entry))) (now (out .entry)) ⌝ }
+{
+    let size = entries.len();
+    bytes::copy(entries, out);
+    zero_pads(&mut out[..size]);
+}
+
+// Copies a payload to the start of out, the pad of each entry as zero.
+pub fn copy(payload: &[u8], out: &mut [u8])
+    requires { ⌜ (4 ≤ length (now payload)) × (length (now payload) ≤ length (now out)) ⌝ }
+    ensures { λ _. ⌜ now (out .exit) ≡ padsZeroed (now (payload .entry)) ++ drop (length (now (payload .entry))) (now (out .entry)) ⌝ }
+{
+    bytes::copy(&payload[..4], out);
+    copy_entries(&payload[4..], &mut out[4..]);
+}
+
+// Writes the payload of a record, whose entries are given as they stand in a payload, to the start of out. Their pads may
+// hold anything. A refusal changes no byte.
+pub fn write(tracks: u64, uids: u64, entries: &[u8], channels: u64, out: &mut [u8]) -> Written
+    ensures { λ r. ⌜ Writes (chnaFrom channels tracks uids (now (entries .entry))) (now (out .entry)) (now (out .exit)) r ⌝ }
+{
+    if entries.len() % 40 != 0 {
+        return Written::Refused(Refusal::BadRecord);
+    }
+    if !whole_good(entries, tracks, uids, channels) {
+        return Written::Refused(Refusal::BadRecord);
+    }
+    let size = 4 + entries.len();
+    if out.len() < size {
+        return Written::Refused(Refusal::NoRoom);
+    }
+    le::store2(out, 0, tracks);
+    le::store2(out, 2, uids);
+    copy_entries(entries, &mut out[4..]);
+    Written::Bytes(size as u64)
 }
