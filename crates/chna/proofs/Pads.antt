@@ -1,12 +1,12 @@
 -- The laws of pads: zeroing them one entry after the other, where they stand; and in a run that goes on past the entries.
 -- Assumes nothing.
 use mathlib.Core.Path.{_≡_, refl, sym, ap, ap₂, _∙_, subst}
-use mathlib.Core.List.{List, [], _∷_, _++_, append-assoc}
+use mathlib.Core.List.{List, [], _∷_, _++_, append-assoc, append-nil}
 use Prim.Native.Nat.{ℕ, zero, suc, _+_, _-_, _*_, _/_, _≤_, _<_}
 use native.Mathlib.Nat.{zero-add, suc-add}
 use native.Mathlib.Omega.{arith}
-use lib.ListN.{length, set, take, drop, length-set, length-append, length-take, length-drop, take-append-drop}
-use lib.Seq.{take-length, set-append-left, length-take-le, take-append-le, drop-append-le, take-at, drop-at, drop-drop}
+use lib.ListN.{length, set, take, drop, length-set, length-append, length-take, length-drop, take-append-drop, drop-of-length-le}
+use lib.Seq.{take-length, take-all, set-append-left, length-take-le, take-append-le, drop-append-le, take-at, drop-at, drop-drop}
 use Rattle.chna.specs.Records.{padsAt, padsOff, padsZeroed}
 
 -- ---- one entry more
@@ -49,3 +49,23 @@ carried s out copied zeroed e f =
     ap₂ (λ (a b : List ℕ). a ++ b)
     (f ∙ ap padsOff (ap (take (length s)) g ∙ take-at s (drop (length s) out) (length s) refl))
     (ap (drop (length s)) g ∙ drop-at s (drop (length s) out) (length s) refl)
+
+-- ---- four bytes, and then entries
+
+-- in an output whose first four bytes are set, the entries copied behind them
+pub laid : (head s out four z : List ℕ) → length head ≡ 4 → 4 + length s ≤ length out → four ≡ head ++ drop 4 out
+    → z ≡ padsOff s ++ drop (length s) (take (length four - 4) (drop 4 four))
+    → take 4 four ++ (z ++ drop (length four - 4) (drop 4 four)) ≡ head ++ padsOff s ++ drop (4 + length s) out
+laid head s out four z n h e f =
+    let long : length four ≡ length out =
+    omega (arith, ap length e, length-append head (drop 4 out), length-drop 4 out) in
+    let behind : drop 4 four ≡ drop 4 out = ap (drop 4) e ∙ drop-at head (drop 4 out) 4 n in
+    let rest : length (drop 4 four) ≤ length four - 4 = omega (arith, length-drop 4 four) in
+    let all : take (length four - 4) (drop 4 four) ≡ drop 4 out = take-all (length four - 4) (drop 4 four) rest ∙ behind in
+    ap₂ (λ (a b : List ℕ). a ++ b)
+    (ap (take 4) e ∙ take-at head (drop 4 out) 4 n)
+    (ap₂ (λ (a b : List ℕ). a ++ b)
+    (f ∙ ap (λ (l : List ℕ). padsOff s ++ l) (ap (drop (length s)) all ∙ drop-drop (length s) 4 out))
+    (drop-of-length-le (drop 4 four) rest)
+    ∙ append-nil (padsOff s ++ drop (4 + length s) out))
+    ∙ sym (append-assoc head (padsOff s) (drop (4 + length s) out))
