@@ -4,3 +4,5 @@ pub mod Marks
 pub mod Counts
 pub mod Answers
 pub mod Pads
+pub mod Payloads
+pub mod Written

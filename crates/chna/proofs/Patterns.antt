@@ -29,6 +29,16 @@ pub fails : (a b : Bool) → a ≡ false → both a b ≡ false
 unfolding pick
 fails a b e = ap (λ (t : Bool). both t b) e
 
+pub both-first : (a b : Bool) → both a b ≡ true → a ≡ true
+unfolding pick
+both-first true b e = refl
+both-first false b e = e
+
+pub both-second : (a b : Bool) → both a b ≡ true → b ≡ true
+unfolding pick
+both-second true b e = e
+both-second false b e = absurd (true≢false (sym e))
+
 -- what a function says that leaves at the first test, or goes on past it
 pub no : (x a b : Bool) → x ≡ both a b → a ≡ false → false ≡ x
 no x a b e f = sym (e ∙ fails a b f)
