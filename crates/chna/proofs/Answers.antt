@@ -29,6 +29,16 @@ pub unchecked : {A : Type 0} (b : Bool) (r : Refusal) (k : Answer A) → b ≡ f
 unfolding check
 unchecked b r k e = ap (λ (t : Bool). check t r k) e
 
+-- a check that ends in a value
+pub check-given : {A : Type 0} (b : Bool) (r : Refusal) (k : Answer A) (x : A) → check b r k ≡ given x
+    → (b ≡ true) × (k ≡ given x)
+unfolding check
+check-given true r k x e = (refl, e)
+check-given false r k x e = let z : _≡_ {A = ℕ} 0 1 = cc in absurd (omega arith)
+
+pub given-same : {A : Type 0} (x y : A) → _≡_ {A = Answer A} (given x) (given y) → x ≡ y
+given-same x y e = cc
+
 -- ---- the length of a payload
 
 pub length-good : (n : ℕ) → 4 ≤ n → (n - 4) % 40 ≡ 0 → lengthGood n ≡ true
@@ -63,6 +73,19 @@ good-record channels p e f =
 
 abbrev numbers : ℕ → ℕ → ℕ → Chna
 numbers t u n = record { tracks = t; uids = u; entries = n }
+
+-- an accepted payload
+pub record Accepted (channels : ℕ) (p : List ℕ) (w : Whole) : Type 0 where
+  pub long : lengthGood (length p) ≡ true
+  pub good : wholeGood channels (wholeIn p) ≡ true
+  pub is : wholeIn p ≡ w
+
+pub accepted : (channels : ℕ) (p : List ℕ) (w : Whole) → chnaIn channels p ≡ given w → Accepted channels p w
+unfolding chnaIn
+accepted channels p w e =
+    let f = check-given (lengthGood (length p)) BadChna _ w e in
+    let g = check-given (wholeGood channels (wholeIn p)) BadChna _ w (f .1) in
+    record { long = f .0; good = g .0; is = given-same (wholeIn p) w (g .1) }
 
 -- the record as the reader gives it
 pub record-read : (channels : ℕ) (p : List ℕ) (tracks uids : ℕ) → lengthGood (length p) ≡ true → wholeGood channels (wholeIn p) ≡ true

@@ -6,3 +6,5 @@ pub mod Answers
 pub mod Pads
 pub mod Payloads
 pub mod Written
+pub mod Back
+pub mod RoundTrip

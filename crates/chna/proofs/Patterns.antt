@@ -124,11 +124,11 @@ unfolding Bytes field
 bytes-field n at s h =
     bytes-take n (drop at s) (λ (i : ℕ). subst (λ (k : ℕ). k < 256) (sym (getD-drop at s i 0)) (h (at + i)))
 
-first : (a b : Bool) → a && b ≡ true → a ≡ true
+pub first : (a b : Bool) → a && b ≡ true → a ≡ true
 first true b e = refl
 first false b e = e
 
-second : (a b : Bool) → a && b ≡ true → b ≡ true
+pub second : (a b : Bool) → a && b ≡ true → b ≡ true
 second true b e = e
 second false b e = absurd (true≢false (sym e))
 

@@ -36,7 +36,7 @@ unfolding Bytes
 bytes-drop n s h i = subst (λ (k : ℕ). k < 256) (sym (getD-drop n s i 0)) (h (n + i))
 
 -- zeros are all that fits a pattern of zeros
-zeros-only : (n : ℕ) (l : List ℕ) → fits (replicate n 0) l ≡ true → l ≡ replicate n 0
+pub zeros-only : (n : ℕ) (l : List ℕ) → fits (replicate n 0) l ≡ true → l ≡ replicate n 0
 unfolding fits fitsOne pick
 zeros-only zero [] e = refl
 zeros-only zero (b ∷ l) e = absurd (true≢false (sym e))
