@@ -1,18 +1,16 @@
 -- The laws of the reader's and the writer's answers, one for each outcome.
 -- Assumes nothing.
-use mathlib.Core.Path.{_≡_, refl, sym, ap, ap₂, _∙_, subst}
-use mathlib.Core.Bool.{Bool, true, false, _&&_}
+use mathlib.Core.Path.{_≡_, refl, sym, ap, ap₂, _∙_}
+use mathlib.Core.Bool.{Bool, true, false}
 use mathlib.Core.List.{List}
 use Prim.Native.Nat.{ℕ, _-_, _/_, _%_, _≤_, _<_}
 use native.Mathlib.Omega.{arith}
 use lib.ListN.{length, take, drop, length-drop}
 use lib.Seq.{take-all}
-use lib.Dec.{eqb, leb}
 use borrow.Author.Tests.{le-leb, lt-leb, eq-eqb, ne-eqb}
 use Rattle.le.specs.Number.{number}
-use Rattle.le.specs.Choice.{pick}
 use Rattle.chunk.specs.declared.Refusal.{Refusal}
-use Rattle.chunk.specs.declared.Refusal.the-variants.{BadChna, BadRecord}
+use Rattle.chunk.specs.declared.Refusal.the-variants.{BadChna}
 use Rattle.chunk.specs.Refusals.{Answer, refused, given, check}
 use Rattle.chna.specs.declared.Chna.{Chna}
 use Rattle.chna.specs.declared.Reading.the-variants as reading

@@ -2,20 +2,20 @@
 -- Assumes nothing.
 use mathlib.Core.Path.{_≡_, refl, sym, ap, ap₂, _∙_, subst}
 use mathlib.Core.Bool.{Bool, true, false}
-use mathlib.Core.List.{List, [], _∷_, _++_}
+use mathlib.Core.List.{List, [], _∷_}
 use Prim.Native.Nat.{ℕ, zero, suc, _+_, _-_, _*_, _/_, _%_, _^_, _≤_, _<_}
 use native.Mathlib.Omega.{arith}
-use native.Mathlib.Nat.{zero-mul, zero-add, suc-add, mod-lt, add-sub-cancel-left}
-use lib.ListN.{length, set, take, drop, getD, replicate, length-set, length-replicate}
+use native.Mathlib.Nat.{zero-add, suc-add, add-sub-cancel-left}
+use lib.ListN.{length, take, drop, getD, replicate, length-set, length-replicate}
 use lib.Seq.{drop-drop}
 use native.Mathlib.Numerals.{add-one}
-use lib.Dec.{eqb, leb, lit<}
+use lib.Dec.{eqb, leb}
 use lib.Bits.{bitOr}
 use borrow.Author.Tests.{le-leb, lt-leb}
 use Rattle.le.specs.Number.{field, number}
 use Rattle.le.specs.Choice.{pick, every}
 use Rattle.chna.specs.Ids.{fits, UNUSED}
-use Rattle.chna.specs.Records.{Used, Entry, unused, used, usedIn, entryIn, usedGood, entryGood, entriesAt, entriesIn, entriesGood, indices, occurs, different, Whole, wholeOf, wholeGood}
+use Rattle.chna.specs.Records.{Entry, unused, used, usedIn, entryIn, usedGood, entryGood, entriesAt, entriesIn, entriesGood, indices, occurs, different, wholeOf, wholeGood}
 use Rattle.chna.proofs.Patterns.{both, holds, fails, itself}
 use Rattle.chna.proofs.Marks.{bit, marked, bit-marked, bit-none}
 

@@ -1,24 +1,20 @@
 -- The laws of entries: the rules of a used one as the code tests them.
 -- Assumes nothing.
-use mathlib.Core.Path.{_≡_, refl, sym, ap, ap₂, _∙_, subst}
+use mathlib.Core.Path.{_≡_, ap, ap₂}
 use mathlib.Core.Bool.{Bool, true, false, _||_}
-use mathlib.Core.List.{List, [], _∷_, _++_}
-use Prim.Native.Nat.{ℕ, zero, suc, _+_, _*_, _≤_, _<_}
-use lib.Dec.{eqb, leb, ltb}
+use mathlib.Core.List.{List}
+use Prim.Native.Nat.{ℕ, _<_}
+use lib.Dec.{leb}
 use borrow.Author.Tests.{lt-ltb}
 use Rattle.le.specs.Number.{field, number}
-use Rattle.le.specs.Choice.{pick, every}
+use Rattle.le.specs.Choice.{every}
 use Rattle.chna.specs.Ids.{fits, UID, TRACK, CHANNEL, PACK, NOPACK}
 use Rattle.chna.specs.Records.{usedIn, usedGood}
-use Rattle.chna.proofs.Patterns.{both, holds, itself}
+use Rattle.chna.proofs.Patterns.{both, itself}
 
 -- either of two tests
 pub or-true : (a b : Bool) → a ≡ true → (a || b) ≡ true
 or-true a b e = ap (λ (t : Bool). t || b) e
-
-pub or-right : (a b : Bool) → b ≡ true → (a || b) ≡ true
-or-right true b e = refl
-or-right false b e = e
 
 pub or-false : (a b : Bool) → a ≡ false → (a || b) ≡ b
 or-false a b e = ap (λ (t : Bool). t || b) e

@@ -8,3 +8,4 @@ pub mod Payloads
 pub mod Written
 pub mod Back
 pub mod RoundTrip
+pub mod Examples

@@ -1,13 +1,13 @@
 -- The laws of pads: zeroing them one entry after the other, where they stand; and in a run that goes on past the entries.
 -- Assumes nothing.
-use mathlib.Core.Path.{_≡_, refl, sym, ap, ap₂, _∙_, subst}
+use mathlib.Core.Path.{_≡_, refl, sym, ap, ap₂, _∙_}
 use mathlib.Core.List.{List, [], _∷_, _++_, append-assoc, append-nil}
-use Prim.Native.Nat.{ℕ, zero, suc, _+_, _-_, _*_, _/_, _≤_, _<_}
+use Prim.Native.Nat.{ℕ, zero, suc, _+_, _-_, _*_, _≤_}
 use native.Mathlib.Nat.{zero-add, suc-add}
 use native.Mathlib.Omega.{arith}
-use lib.ListN.{length, set, take, drop, length-set, length-append, length-take, length-drop, take-append-drop, drop-of-length-le}
-use lib.Seq.{take-length, take-all, set-append-left, length-take-le, take-append-le, drop-append-le, take-at, drop-at, drop-drop}
-use Rattle.chna.specs.Records.{padsAt, padsOff, padsZeroed}
+use lib.ListN.{length, set, take, drop, length-set, length-append, length-drop, take-append-drop, drop-of-length-le}
+use lib.Seq.{take-length, take-all, set-append-left, length-take-le, take-at, drop-at, drop-drop}
+use Rattle.chna.specs.Records.{padsAt, padsOff}
 
 -- ---- one entry more
 

@@ -2,18 +2,17 @@
 -- characters, and each pattern of an entry is thus the tests that the code makes.
 -- Assumes nothing.
 use mathlib.Core.Path.{_≡_, refl, sym, ap, ap₂, _∙_, subst}
-use mathlib.Core.Bool.{true≢false, Bool, true, false, not, _&&_}
+use mathlib.Core.Bool.{true≢false, Bool, true, false, not, _&&_, _||_}
 use mathlib.Core.List.{List, [], _∷_, _++_}
 use Prim.Native.Nat.{ℕ, zero, suc, _+_, _*_, _≤_, _<_}
-use native.Mathlib.Nat.{add-zero}
 use native.Mathlib.Omega.{arith}
 use lib.ListN.{length, take, drop, getD, replicate}
-use lib.Seq.{take-add, drop-drop, drop-cons, getD-take, getD-drop, take-all}
+use lib.Seq.{take-add, drop-drop, drop-cons, getD-drop, take-all}
 use lib.Dec.{eqb, ltb, lit<}
 use borrow.Author.Tests.{eq-eqb, ne-eqb, eqb-true, eqb-false, ltb-true, not-true}
 use Rattle.le.specs.Number.{Bytes, value, field, number}
 use Rattle.le.specs.Choice.{pick}
-use Rattle.le.proofs.Laws.{field-length, number-one}
+use Rattle.le.proofs.Laws.{field-length}
 use Rattle.chna.specs.Ids.{isHex, fitsOne, fits, codes, hexes, UNUSED, UID, TRACK, CHANNEL, PACK, NOPACK}
 
 -- ---- two tests, the second asked where the first holds
@@ -28,6 +27,14 @@ holds a b e = ap (λ (t : Bool). both t b) e
 pub fails : (a b : Bool) → a ≡ false → both a b ≡ false
 unfolding pick
 fails a b e = ap (λ (t : Bool). both t b) e
+
+pub picked : (a x y : Bool) → a ≡ true → pick a x y ≡ x
+unfolding pick
+picked a x y e = ap (λ (t : Bool). pick t x y) e
+
+pub passed : (a x y : Bool) → a ≡ false → pick a x y ≡ y
+unfolding pick
+passed a x y e = ap (λ (t : Bool). pick t x y) e
 
 pub both-first : (a b : Bool) → both a b ≡ true → a ≡ true
 unfolding pick
@@ -165,6 +172,25 @@ text-at ps at s e h k =
 
 -- ---- the patterns of an entry, as the code tests them
 
+-- two patterns that differ in their first part and in their last
+either-end : (a b u s h z : Bool) → (a ≡ true → b ≡ false)
+    → (both a (both u (both s h)) || both b (both u (both s z))) ≡ both u (both s (pick a h (both b z)))
+unfolding pick
+either-end true true u s h z f = absurd (true≢false (f refl))
+either-end true false true true true z f = refl
+either-end true false true true false z f = refl
+either-end true false true false h z f = refl
+either-end true false false s h z f = refl
+either-end false true u s h z f = refl
+either-end false false true true h z f = refl
+either-end false false true false h z f = refl
+either-end false false false s h z f = refl
+
+-- the last part of a track reference: two digits after AT, 00 after AC
+abbrev pub reference-end : List ℕ → Bool
+reference-end e =
+    pick (eqb (number 2 14 e) 0x5441) (fits (hexes 2) (field 2 26 e)) (both (eqb (number 2 14 e) 0x4341) (eqb (number 2 26 e) 0x3030))
+
 module _ (e : List ℕ) (h : Bytes e) (n : length e ≡ 40) where
   pub uid-tests : fits UID (field 12 2 e) ≡ both (eqb (number 4 2 e) 0x5F555441) (fits (hexes 8) (field 8 6 e))
   unfolding codes value plain
@@ -172,7 +198,7 @@ module _ (e : List ℕ) (h : Bytes e) (n : length e ≡ 40) where
       fits-split (codes "ATU_") (hexes 8) 2 e (omega arith)
       ∙ ap (λ (t : Bool). both t (fits (hexes 8) (field 8 6 e))) (text-at (codes "ATU_") 2 e refl h (omega arith))
 
-  pub track-tests : fits TRACK (field 14 14 e)
+  track-tests : fits TRACK (field 14 14 e)
       ≡ both (eqb (number 2 14 e) 0x5441)
       (both (fits (0x5F ∷ hexes 8) (field 9 16 e))
       (both (eqb (getD e 25 0) 0x5F) (fits (hexes 2) (field 2 26 e))))
@@ -185,7 +211,7 @@ module _ (e : List ℕ) (h : Bytes e) (n : length e ≡ 40) where
       (fits-split (codes "_") (hexes 2) 25 e (omega arith)
       ∙ ap (λ (t : Bool). both t (fits (hexes 2) (field 2 26 e))) (one 0x5F 25 e (omega arith))))
 
-  pub channel-tests : fits CHANNEL (field 14 14 e)
+  channel-tests : fits CHANNEL (field 14 14 e)
       ≡ both (eqb (number 2 14 e) 0x4341)
       (both (fits (0x5F ∷ hexes 8) (field 9 16 e))
       (both (eqb (getD e 25 0) 0x5F) (eqb (number 2 26 e) 0x3030)))
@@ -197,6 +223,14 @@ module _ (e : List ℕ) (h : Bytes e) (n : length e ≡ 40) where
       ∙ ap (both (fits (0x5F ∷ hexes 8) (field 9 16 e)))
       (fits-split (codes "_") (codes "00") 25 e (omega arith)
       ∙ ap₂ both (one 0x5F 25 e (omega arith)) (text-at (codes "00") 26 e refl h (omega arith))))
+
+  pub reference-tests : (fits TRACK (field 14 14 e) || fits CHANNEL (field 14 14 e))
+      ≡ both (fits (0x5F ∷ hexes 8) (field 9 16 e)) (both (eqb (getD e 25 0) 0x5F) (reference-end e))
+  reference-tests =
+      ap₂ (λ (x y : Bool). x || y) track-tests channel-tests
+      ∙ either-end (eqb (number 2 14 e) 0x5441) (eqb (number 2 14 e) 0x4341) _ _ _ _
+      (λ (q : eqb (number 2 14 e) 0x5441 ≡ true). ne-eqb (number 2 14 e) 0x4341
+      (λ (r : number 2 14 e ≡ 0x4341). absurd (omega (arith, eqb-true (number 2 14 e) 0x5441 q))))
 
   pub pack-tests : fits PACK (field 11 28 e) ≡ both (eqb (number 2 28 e) 0x5041) (fits (0x5F ∷ hexes 8) (field 9 30 e))
   unfolding codes value plain

@@ -1,20 +1,20 @@
 -- The bytes of a record that was read from bytes are those bytes, but for the pads.
 -- Assumes nothing.
 use mathlib.Core.Path.{_≡_, refl, sym, ap, ap₂, _∙_, subst}
-use mathlib.Core.Bool.{true≢false, Bool, true, false, _&&_}
-use mathlib.Core.List.{List, [], _∷_, _++_, append-assoc}
-use Prim.Native.Nat.{ℕ, zero, suc, _+_, _-_, _*_, _/_, _%_, _≤_, _<_}
+use mathlib.Core.Bool.{true≢false, Bool, true, false}
+use mathlib.Core.List.{List, [], _∷_, _++_}
+use Prim.Native.Nat.{ℕ, zero, suc, _+_, _*_, _/_, _%_, _≤_, _<_}
 use native.Mathlib.Omega.{arith}
-use lib.ListN.{length, set, take, drop, getD, replicate, length-take, length-drop, drop-of-length-le}
-use lib.Seq.{getD-drop, set-split, take-add, drop-drop, length-take-le, take-all}
-use lib.Dec.{eqb, ltb}
+use lib.ListN.{length, set, take, drop, replicate, length-drop, drop-of-length-le}
+use lib.Seq.{getD-drop, set-split, take-add, length-take-le}
+use lib.Dec.{eqb}
 use borrow.Author.Tests.{eqb-true}
 use Rattle.le.specs.Number.{Bytes, value, bytes, field, number, stored}
 use Rattle.le.specs.Choice.{pick}
 use Rattle.le.proofs.Laws.{field-length}
 use Rattle.chna.specs.Ids.{fitsOne, fits, UNUSED}
-use Rattle.chna.specs.Records.{Entry, unused, used, usedIn, entryIn, entryBytes, entriesAt, entriesIn, entriesBytes, wholeOf, payloadOf, padsAt, padsOff}
-use Rattle.chna.proofs.Patterns.{both, both-first, both-second, bytes-field}
+use Rattle.chna.specs.Records.{unused, used, usedIn, entryIn, entryBytes, entriesAt, entriesIn, entriesBytes, wholeOf, payloadOf, padsAt, padsOff}
+use Rattle.chna.proofs.Patterns.{both-first, both-second, bytes-field}
 
 -- a number of bytes gives the bytes back
 bytes-value : (l : List ℕ) → Bytes l → bytes (length l) (value l) ≡ l

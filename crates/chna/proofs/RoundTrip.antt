@@ -2,21 +2,21 @@
 -- written again but for its pads.
 -- Assumes nothing.
 use mathlib.Core.Path.{_≡_, refl, sym, ap, ap₂, _∙_, subst}
-use mathlib.Core.Bool.{Bool, true, false}
+use mathlib.Core.Bool.{true}
 use mathlib.Core.List.{List, [], _∷_, _++_}
-use Prim.Native.Nat.{ℕ, _+_, _-_, _/_, _%_, _≤_, _<_}
+use Prim.Native.Nat.{ℕ, _-_, _%_, _≤_}
 use native.Mathlib.Omega.{arith}
-use lib.ListN.{length, take, drop, set, replicate, length-append, length-take, length-drop}
+use lib.ListN.{length, take, drop, replicate, length-drop}
 use lib.Seq.{take-add}
 use lib.Dec.{eqb, leb}
 use borrow.Author.Tests.{leb-true, eqb-true}
 use Rattle.le.specs.Number.{Bytes, bytes, field, number, value}
 use Rattle.chunk.specs.declared.Refusal.the-variants.{BadChna, BadRecord}
-use Rattle.chunk.specs.Refusals.{Answer, refused, given, check}
+use Rattle.chunk.specs.Refusals.{refused, given, check}
 use Rattle.chna.specs.Ids.{isHex, fitsOne, fits, codes}
 use Rattle.chna.specs.Records.{entriesIn, entriesAt, entriesGood, entryIn, entryGood, usedIn, usedGood, indices, different, occurs, padsAt, Whole, wholeOf, wholeIn, wholeGood, lengthGood, chnaIn, payloadOf, chnaOut, chnaFrom, padsOff, padsZeroed}
 use Rattle.chna.proofs.Patterns.{first, second}
-use Rattle.chna.proofs.Answers.{checked, check-given, given-same, good-record, Accepted, accepted}
+use Rattle.chna.proofs.Answers.{checked, check-given, given-same, good-record, accepted}
 use Rattle.chna.proofs.Back.{payload-length, payload-back, Sound, sound}
 use Rattle.chna.proofs.Payloads.{bytes-number, bytes-drop, payload-bytes}
 

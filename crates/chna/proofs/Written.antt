@@ -1,9 +1,9 @@
 -- The laws of the writer's answer, one for each outcome.
 -- Assumes nothing.
-use mathlib.Core.Path.{_≡_, refl, sym, ap, ap₂, _∙_, subst}
-use mathlib.Core.Bool.{Bool, true, false}
+use mathlib.Core.Path.{_≡_, sym, ap, _∙_}
+use mathlib.Core.Bool.{true, false}
 use mathlib.Core.List.{List, _++_}
-use Prim.Native.Nat.{ℕ, _+_, _*_, _/_, _%_, _≤_, _<_}
+use Prim.Native.Nat.{ℕ, _+_, _/_, _%_, _≤_, _<_}
 use native.Mathlib.Omega.{arith}
 use lib.ListN.{length, drop, length-append}
 use lib.Dec.{eqb, leb}
@@ -11,11 +11,10 @@ use borrow.Author.Tests.{le-leb, lt-leb, eq-eqb, ne-eqb}
 use Rattle.le.specs.Number.{Bytes, bytes}
 use Rattle.chunk.specs.declared.Refusal.{Refusal}
 use Rattle.chunk.specs.declared.Refusal.the-variants.{BadRecord, NoRoom}
-use Rattle.chunk.specs.declared.Written.{Written}
 use Rattle.chunk.specs.declared.Written.the-variants as written
-use Rattle.chunk.specs.Refusals.{Answer, refused, given, check, andThen}
+use Rattle.chunk.specs.Refusals.{Answer, refused, given}
 use Rattle.chunk.specs.Writes.{fitting, writtenOf, outputOf}
-use Rattle.chna.specs.Records.{wholeOf, wholeGood, payloadOf, chnaOut, chnaFrom, padsOff, Writes}
+use Rattle.chna.specs.Records.{wholeOf, wholeGood, chnaOut, chnaFrom, padsOff, Writes}
 use Rattle.chna.proofs.Answers.{checked, unchecked}
 use Rattle.chna.proofs.Pads.{pads-length}
 use Rattle.chna.proofs.Payloads.{payload-bytes, four-bytes}

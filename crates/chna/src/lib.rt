@@ -5,11 +5,12 @@
 use chunk::Refusal;
 use chunk::Written;
 ghost use mathlib.Core.Path.{_≡_};
+ghost use mathlib.Core.Bool.{_||_};
 ghost use mathlib.Core.List.{_++_, _∷_};
 ghost use Prim.Native.Nat.{_+_, _/_, _%_, _^_, _≤_, _<_};
 ghost use lib.ListN.{length, drop};
 ghost use lib.Bits.{bitOr};
-ghost use Rattle.le.specs.Number.{field, bytes};
+ghost use Rattle.le.specs.Number.{field};
 ghost use Rattle.chna.specs.Ids.{isHex, fits, hexes, UNUSED, UID, TRACK, CHANNEL, PACK, NOPACK};
 ghost use Rattle.chna.specs.Records.{usedIn, usedGood, wholeOf, wholeGood, chnaIn, readAs, chnaFrom, Writes, padsOff, padsZeroed};
 
@@ -104,35 +105,22 @@ fn is_uid(e: &[u8]) -> bool
     hex8(e, 6)
 }
 
-// AT_, eight hexadecimal digits, an underscore and two hexadecimal digits.
-fn is_track(e: &[u8]) -> bool
+// AT_, eight hexadecimal digits, an underscore and two hexadecimal digits; or AC_, eight hexadecimal digits and _00.
+fn is_reference(e: &[u8]) -> bool
     requires { ⌜ length (now e) ≡ 40 ⌝ }
-    ensures { λ r. ⌜ r ≡ fits TRACK (field 14 14 (now (e .entry))) ⌝ }
+    ensures { λ r. ⌜ r ≡ (fits TRACK (field 14 14 (now (e .entry))) || fits CHANNEL (field 14 14 (now (e .entry)))) ⌝ }
 {
-    if le::read2(e, 14) != 0x5441 {
-        return false;
-    }
     if !under8(e, 16) {
         return false;
     }
     if e[25] != b'_' {
         return false;
     }
-    hex2(e, 26)
-}
-
-// AC_, eight hexadecimal digits and _00.
-fn is_channel(e: &[u8]) -> bool
-    requires { ⌜ length (now e) ≡ 40 ⌝ }
-    ensures { λ r. ⌜ r ≡ fits CHANNEL (field 14 14 (now (e .entry))) ⌝ }
-{
-    if le::read2(e, 14) != 0x4341 {
-        return false;
+    let letters = le::read2(e, 14);
+    if letters == 0x5441 {
+        return hex2(e, 26);
     }
-    if !under8(e, 16) {
-        return false;
-    }
-    if e[25] != b'_' {
+    if letters != 0x4341 {
         return false;
     }
     le::read2(e, 26) == 0x3030
@@ -198,10 +186,8 @@ fn used_good(e: &[u8], channels: u64) -> bool
     if !is_uid(e) {
         return false;
     }
-    if !is_track(e) {
-        if !is_channel(e) {
-            return false;
-        }
+    if !is_reference(e) {
+        return false;
     }
     if is_pack(e) {
         return true;

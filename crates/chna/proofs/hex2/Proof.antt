@@ -1,7 +1,6 @@
 -- `chna::hex2` meets its contract: two digits are a first and a second.
 -- Assumes nothing.
 use mathlib.Core.Path.{_∙_, sym}
-use native.Mathlib.Omega.{arith}
 use borrow.Author.Tests.{not-true, not-false}
 use Rattle.chna.proofs.Patterns.{no, yes, two-hex}
 use borrow.Author.Needs.{needs}

@@ -1,6 +1,6 @@
 -- `chna::is_pack` meets its contract: each test asks its part of the pattern.
 -- Assumes nothing.
-use mathlib.Core.Path.{_∙_, sym, ap, refl}
+use mathlib.Core.Path.{_∙_, sym}
 use native.Mathlib.Omega.{arith}
 use Rattle.le.specs.Number.{Bytes}
 use Rattle.chna.proofs.Patterns.{no, yes, equal, unequal, pack-tests}

@@ -1,13 +1,11 @@
 -- `chna::read` meets its contract: each exit is one outcome of the definition.
 -- Assumes nothing.
 use mathlib.Core.Path.{_≡_, _∙_, sym, ap, ap₂}
-use mathlib.Core.Bool.{Bool, true, false}
 use mathlib.Core.List.{List}
 use Prim.Native.Nat.{ℕ}
-use native.Mathlib.Omega.{arith}
 use lib.ListN.{drop}
 use borrow.Author.Tests.{not-true, not-false}
-use Rattle.chna.specs.Records.{wholeOf, wholeIn, wholeGood, lengthGood}
+use Rattle.chna.specs.Records.{wholeOf, wholeIn, wholeGood}
 use Rattle.chna.proofs.Answers.{length-short, length-ragged, length-good, bad-length, bad-record, record-read, tail}
 use borrow.Author.Needs.{needs}
 use Rattle.chna.proofs.read.Statement.{statement}

@@ -1,7 +1,6 @@
 -- `chna::under8` meets its contract: an underscore, and then eight digits.
 -- Assumes nothing.
 use mathlib.Core.Path.{_∙_, sym}
-use native.Mathlib.Omega.{arith}
 use borrow.Author.Tests.{eq-eqb, ne-eqb}
 use Rattle.chna.proofs.Patterns.{no, yes, under-hex}
 use borrow.Author.Needs.{needs}

@@ -1,8 +1,7 @@
 -- `chna::used_good` meets its contract: each exit is one rule that fails, or all that hold.
 -- Assumes nothing.
 use mathlib.Core.Path.{_≡_, _∙_, sym}
-use mathlib.Core.Bool.{Bool, true, false, _||_}
-use mathlib.Core.Logic.{⊎-elim}
+use mathlib.Core.Bool.{Bool, _||_}
 use native.Mathlib.Omega.{arith}
 use mathlib.Core.List.{List}
 use Prim.Native.Nat.{ℕ}
@@ -12,7 +11,7 @@ use Rattle.le.specs.Number.{field, number}
 use Rattle.chna.specs.Ids.{fits, UID, TRACK, CHANNEL, PACK, NOPACK}
 use Rattle.chna.specs.Records.{usedIn, usedGood}
 use Rattle.chna.proofs.Patterns.{both, no, yes}
-use Rattle.chna.proofs.Entries.{used-tests, or-true, or-right, or-false}
+use Rattle.chna.proofs.Entries.{used-tests, or-true, or-false}
 use borrow.Author.Needs.{needs}
 use Rattle.chna.proofs.used_good.Statement.{statement}
 use Rattle.chna.proofs.used_good.Tie as tie
@@ -55,16 +54,12 @@ named c =
     yes _ _ _ (ranged (c .before .before))
     (sym (c .before .is-uid .ensures) ∙ not-false (c .before .is-uid .result) (c .if3 .left))
 
-refers : (c : tie.Joined4)
+refers : (c : tie.Else4)
     → usedGood (c .before .before .before .before .before .before .before .before .args .channels) (usedIn (c .before .before .before .before .before .before .before .before .args .e .now))
     ≡ packed (c .before .before .before .before .before .before .before .before .args .e .now)
 refers c =
-    let e = c .before .before .before .before .before .before .before .before .args .e .now in
     yes _ _ _ (named (c .before .before))
-    (⊎-elim
-    (λ w. or-right (fits TRACK (field 14 14 e)) _ (sym (w .1 .ensures) ∙ not-false (w .1 .result) (w .2 .left)))
-    (λ w. or-true (fits TRACK (field 14 14 e)) _ (sym (c .before .is-track .ensures) ∙ not-false (c .before .is-track .result) (w .left)))
-    (c .if4 .came))
+    (sym (c .before .is-reference .ensures) ∙ not-false (c .before .is-reference .result) (c .if4 .left))
 
 returns : tie.Need-returns
 returns c =
@@ -85,20 +80,12 @@ returns-3 : tie.Need-returns-3
 returns-3 c =
     no _ _ _ (ranged (c .before .before)) (sym (c .before .is-uid .ensures) ∙ not-true (c .before .is-uid .result) (c .if3 .taken))
 
-is-track-requires : tie.Need-is-track-requires
-is-track-requires c κs = search needs
-
-is-channel-requires : tie.Need-is-channel-requires
-is-channel-requires c κs = search needs
+is-reference-requires : tie.Need-is-reference-requires
+is-reference-requires c κs = search needs
 
 returns-4 : tie.Need-returns-4
 returns-4 c =
-    let e = c .before .before .before .before .before .before .before .before .before .before .args .e .now in
-    let track = c .before .before .before .is-track in
-    let channel = c .before .is-channel in
-    no _ _ _ (named (c .before .before .before .before))
-    (or-false (fits TRACK (field 14 14 e)) _ (sym (track .ensures) ∙ not-true (track .result) (c .before .before .if4 .taken))
-    ∙ (sym (channel .ensures) ∙ not-true (channel .result) (c .if5 .taken)))
+    no _ _ _ (named (c .before .before)) (sym (c .before .is-reference .ensures) ∙ not-true (c .before .is-reference .result) (c .if4 .taken))
 
 is-pack-requires : tie.Need-is-pack-requires
 is-pack-requires c κs = search needs
@@ -106,7 +93,7 @@ is-pack-requires c κs = search needs
 returns-5 : tie.Need-returns-5
 returns-5 c =
     let e = c .before .before .before .before .before .before .before .before .before .before .args .e .now in
-    sym (refers (c .before .before) ∙ or-true (fits PACK (field 11 28 e)) _ (sym (c .before .is-pack .ensures) ∙ c .if6 .taken))
+    sym (refers (c .before .before) ∙ or-true (fits PACK (field 11 28 e)) _ (sym (c .before .is-pack .ensures) ∙ c .if5 .taken))
 
 no-pack-requires : tie.Need-no-pack-requires
 no-pack-requires c κs = search needs
@@ -115,7 +102,7 @@ returns-6 : tie.Need-returns-6
 returns-6 c =
     let e = c .before .before .before .before .before .before .before .before .before .before .before .args .e .now in
     c .no-pack .ensures
-    ∙ sym (refers (c .before .before .before) ∙ or-false (fits PACK (field 11 28 e)) _ (sym (c .before .before .is-pack .ensures) ∙ c .before .if6 .left))
+    ∙ sym (refers (c .before .before .before) ∙ or-false (fits PACK (field 11 28 e)) _ (sym (c .before .before .is-pack .ensures) ∙ c .before .if5 .left))
 
 pub used-good-spec : {M : Type 1} → statement M
 used-good-spec =
@@ -126,8 +113,7 @@ used-good-spec =
     returns-2
     is-uid-requires
     returns-3
-    is-track-requires
-    is-channel-requires
+    is-reference-requires
     returns-4
     is-pack-requires
     returns-5

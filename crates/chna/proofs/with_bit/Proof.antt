@@ -1,7 +1,7 @@
 -- `chna::with_bit` meets its contract: a 1 moved by fewer than 64 places loses nothing.
 -- Assumes nothing.
 use mathlib.Core.Path.{_∙_, ap}
-use Prim.Native.Nat.{_*_, _^_}
+use Prim.Native.Nat.{_^_}
 use native.Mathlib.Nat.{one-mul}
 use native.Mathlib.Omega.{arith}
 use lib.Bits.{bitOr}

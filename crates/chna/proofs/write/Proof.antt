@@ -1,12 +1,9 @@
 -- `chna::write` meets its contract: each exit is one outcome of the definition, and the last lays the counts and the
 -- entries behind them.
 -- Assumes nothing.
-use mathlib.Core.Path.{_≡_, sym, ap, ap₂, _∙_}
-use mathlib.Core.Bool.{Bool, true, false}
-use mathlib.Core.List.{List, _++_}
-use Prim.Native.Nat.{ℕ, _+_, _-_}
+use mathlib.Core.Path.{sym, ap, _∙_}
+use mathlib.Core.List.{_++_}
 use native.Mathlib.Omega.{arith}
-use lib.ListN.{length, take, drop}
 use borrow.Author.Tests.{not-true, not-false}
 use Rattle.le.specs.Number.{Bytes, bytes, stored}
 use Rattle.chna.proofs.Pads.{laid}
