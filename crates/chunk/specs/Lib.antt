@@ -3,3 +3,4 @@ pub mod Refusals
 pub mod Tables
 pub mod Walks
 pub mod Writes
+pub mod Dues

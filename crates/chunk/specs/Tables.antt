@@ -1,27 +1,34 @@
 -- A table of chunks: "name, payload place and true size of each chunk, in file order". As words: the number of chunks,
 -- then four words for each.
-use Prim.Native.Nat.{ℕ, zero, suc, _+_, _*_}
-use mathlib.Core.List.{List, [], _∷_}
+use Prim.Native.Nat.{ℕ, suc, _+_, _*_}
+use mathlib.Core.List.{List, [], _∷_, _++_}
 use mathlib.Core.Bool.{Bool}
-use lib.ListN.{length, set, replicate}
+use lib.ListN.{length, drop, replicate}
 use lib.Seq.{sets}
 use lib.Dec.{eqb}
 use Rattle.le.specs.Choice.{pick}
 use Rattle.chunk.specs.declared.Entry.{Entry}
 use Rattle.chunk.specs.declared.Table.{Table}
 
--- the words with row i holding an entry
-unfoldable pub setRow : List ℕ → ℕ → Entry → List ℕ
-setRow w i e = sets w (1 + 4 * i) (e .name ∷ e .place ∷ e .size ∷ 0 ∷ [])
+-- the words of a chunk; the fourth is kept for where its size came from
+unfoldable pub rowWords : Entry → List ℕ
+rowWords e = e .name ∷ e .place ∷ e .size ∷ 0 ∷ []
 
--- the words with these entries as rows from i on, and then the number of rows in word 0; all other words as they were
-unfoldable pub filled : List ℕ → ℕ → List Entry → List ℕ
-filled w i [] = set w 0 i
-filled w i (e ∷ es) = filled (setRow w i e) (suc i) es
+unfoldable pub allWords : List Entry → List ℕ
+allWords [] = []
+allWords (e ∷ es) = rowWords e ++ allWords es
 
--- the table of these entries, with zeros past the last
+-- words that hold the table of these chunks; those past the last chunk as they were
+unfoldable pub tabled : List Entry → List ℕ → List ℕ
+tabled rows w = length rows ∷ allWords rows ++ drop (1 + 4 * length rows) w
+
+-- the table of these chunks, with zeros past the last
 unfoldable pub tableOf : List Entry → Table
-tableOf rows = record { words = filled (replicate 257 0) 0 rows }
+tableOf rows = record { words = tabled rows (replicate 257 0) }
+
+-- words with a chunk stored as row i
+unfoldable pub setRow : List ℕ → ℕ → Entry → List ℕ
+setRow w i e = sets w (1 + 4 * i) (rowWords e)
 
 -- how many chunks have a name
 unfoldable pub count : ℕ → List Entry → ℕ

@@ -1,9 +1,14 @@
 // Chunks: the refusals, a chunk's entry, the table of them, and a step of the walk from header to header.
 //
 // A chunk is a 4-byte name, a 32-bit size field, its payload, and one pad byte where the payload is odd.
+pub mod header;
+
 ghost use mathlib.Core.Path.{_≡_};
-ghost use lib.ListN.{replicate};
-ghost use Rattle.chunk.specs.Refusals.{numberOf};
+ghost use Prim.Native.Nat.{_+_, _*_, _≤_};
+ghost use mathlib.Core.List.{[]};
+ghost use lib.ListN.{length};
+ghost use Rattle.chunk.specs.Refusals.{numberOf, verdictNumber};
+ghost use Rattle.chunk.specs.Tables.{tableOf, setRow};
 
 // Why a file or a record is refused: document 01's table, in its order.
 pub enum Refusal {
@@ -82,6 +87,18 @@ pub enum Verdict {
     Refused(Refusal),
 }
 
+impl Verdict {
+    // 0, or the refusal's number.
+    pub fn number(self) -> u32
+        ensures { λ r. ⌜ r ≡ verdictNumber self ⌝ }
+    {
+        match self {
+            Verdict::Accepted => 0,
+            Verdict::Refused(r) => r.number(),
+        }
+    }
+}
+
 // A chunk of a file: its 4-byte name as a number, where its payload starts, and its true size.
 pub struct Entry {
     pub name: u64,
@@ -103,12 +120,51 @@ impl Table {
 
     // The table of no chunks.
     pub fn empty() -> Table
-        ensures { λ r. ⌜ r .words ≡ replicate 257 0 ⌝ }
+        ensures { λ r. ⌜ r ≡ tableOf [] ⌝ }
     {
         Table {
             words: [0u64; Table::WORDS],
         }
     }
+}
+
+// Stores an entry as row i of a table's words.
+pub fn put_row(words: &mut [u64], i: usize, e: Entry)
+    requires { ⌜ 5 + 4 * i ≤ length (now words) ⌝ }
+    ensures { λ _. ⌜ now (words .exit) ≡ setRow (now (words .entry)) i e ⌝ }
+{
+    let at = 1 + 4 * i;
+    words[at] = e.name;
+    words[at + 1] = e.place;
+    words[at + 2] = e.size;
+    words[at + 3] = 0;
+}
+
+// The names of chunks, and the field that holds no size.
+pub struct Name;
+
+impl Name {
+    pub const DS64: u64 = 0x3436_7364;
+
+    pub const JUNK: u64 = 0x4b4e_554a;
+
+    pub const FMT: u64 = 0x2074_6d66;
+
+    pub const DATA: u64 = 0x6174_6164;
+
+    pub const FACT: u64 = 0x7463_6166;
+
+    pub const BEXT: u64 = 0x7478_6562;
+
+    pub const CHNA: u64 = 0x616e_6863;
+
+    pub const ONES: u64 = 0xFFFF_FFFF;
+}
+
+// What stands at an offset before the true size is asked: a header's name and size field, or a stop.
+pub enum Due {
+    Header(u64, u64),
+    Stop(Verdict),
 }
 
 // What a step of the walk finds at an offset.

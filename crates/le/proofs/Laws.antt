@@ -74,7 +74,7 @@ bytes-append zero m v = rw (zero-add, pow-zero, div-one)
 bytes-append (suc n) m v =
     rw (suc-add, pow-succ' 256 n, ← (div-div-eq-div-mul v 256 (256 ^ n)), bytes-append n m (v / 256))
 
-sets-append : (xs ys s : List ℕ) (at : ℕ) → sets s at (xs ++ ys) ≡ sets (sets s at xs) (at + length xs) ys
+pub sets-append : (xs ys s : List ℕ) (at : ℕ) → sets s at (xs ++ ys) ≡ sets (sets s at xs) (at + length xs) ys
 sets-append [] ys s at = rw add-zero
 sets-append (x ∷ xs) ys s at = rw (add-suc, ← (suc-add at (length xs))) (sets-append xs ys (set s at x) (suc at))
 
@@ -85,7 +85,7 @@ stored-split n m at v s =
     ∙ sets-append (bytes n v) (bytes m (v / 256 ^ n)) s at
     ∙ ap (λ (k : ℕ). sets (sets s at (bytes n v)) (at + k) (bytes m (v / 256 ^ n))) (bytes-length n v)
 
-value-bytes : (n v : ℕ) → v < 256 ^ n → value (bytes n v) ≡ v
+pub value-bytes : (n v : ℕ) → v < 256 ^ n → value (bytes n v) ≡ v
 unfolding value bytes
 value-bytes zero v h = omega (arith, pow-zero 256)
 value-bytes (suc n) v h =
@@ -98,6 +98,13 @@ field-sets at bs s h =
     rw (sets-eq bs s at, append-assoc)
     (ap (take (length bs)) (drop-at (take at s) (bs ++ drop (at + length bs) s) at (length-take-le at s (omega arith)))
     ∙ take-at bs (drop (at + length bs) s) (length bs) refl)
+
+-- a run that starts with a number is stored as that number, and then the rest
+pub stored-then : (n at v : ℕ) (ys s : List ℕ) → sets s at (bytes n v ++ ys) ≡ sets (stored n at v s) (at + n) ys
+unfolding stored
+stored-then n at v ys s =
+    sets-append (bytes n v) ys s at
+    ∙ ap (λ (k : ℕ). sets (sets s at (bytes n v)) (at + k) ys) (bytes-length n v)
 
 -- what is stored is read back
 pub number-stored : (n at v : ℕ) (s : List ℕ) → v < 256 ^ n → at + n ≤ length s → number n at (stored n at v s) ≡ v
@@ -136,3 +143,43 @@ field-stored m b n at v s (inr h) = field-sets-after m b at (bytes n v) s (omega
 pub number-frame : (n b : ℕ) (s t : List ℕ) → field n b s ≡ field n b t → number n b s ≡ number n b t
 unfolding number
 number-frame n b s t e = ap value e
+
+-- ---- the bytes of a number that was read are the bytes that were there
+
+bytes-value : (n : ℕ) (l : List ℕ) → ((i : ℕ) → getD l i 0 < 256) → n ≤ length l → bytes n (value (take n l)) ≡ take n l
+unfolding bytes value
+bytes-value zero l b h = refl
+bytes-value (suc n) [] b h = absurd (omega arith)
+bytes-value (suc n) (x ∷ l) b h =
+    ap₂ (λ (y : ℕ) (ys : List ℕ). y ∷ ys)
+    (omega (arith, b 0))
+    (ap (bytes n) (omega (arith, b 0)) ∙ bytes-value n l (λ i. b (suc i)) (omega arith))
+
+pub bytes-number : (n at : ℕ) (s : List ℕ) → Bytes s → at + n ≤ length s → bytes n (number n at s) ≡ field n at s
+unfolding number field Bytes
+bytes-number n at s b h =
+    bytes-value n (drop at s)
+    (λ (i : ℕ). subst (λ (k : ℕ). k < 256) (sym (getD-drop at s i 0)) (b (at + i)))
+    (simp length-drop (omega arith))
+
+-- what stands from a place on is the number there, and what stands after it
+pub number-then : (n at : ℕ) (s : List ℕ) → Bytes s → at + n ≤ length s
+    → drop at s ≡ bytes n (number n at s) ++ drop (at + n) s
+unfolding field
+number-then n at s b h =
+    sym (take-append-drop n (drop at s))
+    ∙ ap₂ _++_ (sym (bytes-number n at s b h)) (drop-drop n at s)
+
+-- ---- runs of bytes
+
+pub Bytes-bytes : (n v : ℕ) → Bytes (bytes n v)
+unfolding Bytes bytes
+Bytes-bytes zero v i = lit< tt
+Bytes-bytes (suc n) v zero = mod-lt v (lit< tt)
+Bytes-bytes (suc n) v (suc i) = Bytes-bytes n (v / 256) i
+
+pub Bytes-append : (a b : List ℕ) → Bytes a → Bytes b → Bytes (a ++ b)
+unfolding Bytes
+Bytes-append [] b ha hb i = hb i
+Bytes-append (x ∷ a) b ha hb zero = ha 0
+Bytes-append (x ∷ a) b ha hb (suc i) = Bytes-append a b (λ j. ha (suc j)) hb i

@@ -1,1 +1,9 @@
 pub mod Cases
+pub mod Patches
+pub mod Thirds
+pub mod Stores
+pub mod Takes
+pub mod Renamed
+pub mod Upgraded
+pub mod Outcomes
+pub mod Demand3

@@ -1,2 +1,3 @@
 pub mod Upgrades
 pub mod Cases
+pub mod Demand3
