@@ -27,7 +27,20 @@ pub struct Chna {
 impl Chna {
     // The most entries that a record may have.
     pub const LIMIT: usize = 1024;
+    // The bytes of an entry.
+    pub const ENTRY: usize = 40;
 }
+
+// What the identifiers start with, and how a channel reference ends, each as a number.
+const ATU: u64 = 0x5f55_5441;
+
+const AT: u64 = 0x5441;
+
+const AC: u64 = 0x4341;
+
+const AP: u64 = 0x5041;
+
+const ZEROS: u64 = 0x3030;
 
 // What a reader answers.
 pub enum Reading {
@@ -99,7 +112,7 @@ fn is_uid(e: &[u8]) -> bool
     requires { ⌜ length (now e) ≡ 40 ⌝ }
     ensures { λ r. ⌜ r ≡ fits UID (field 12 2 (now (e .entry))) ⌝ }
 {
-    if le::read4(e, 2) != 0x5f55_5441 {
+    if le::read4(e, 2) != ATU {
         return false;
     }
     hex8(e, 6)
@@ -117,13 +130,13 @@ fn is_reference(e: &[u8]) -> bool
         return false;
     }
     let letters = le::read2(e, 14);
-    if letters == 0x5441 {
+    if letters == AT {
         return hex2(e, 26);
     }
-    if letters != 0x4341 {
+    if letters != AC {
         return false;
     }
-    le::read2(e, 26) == 0x3030
+    le::read2(e, 26) == ZEROS
 }
 
 // AP_ and eight hexadecimal digits.
@@ -131,7 +144,7 @@ fn is_pack(e: &[u8]) -> bool
     requires { ⌜ length (now e) ≡ 40 ⌝ }
     ensures { λ r. ⌜ r ≡ fits PACK (field 11 28 (now (e .entry))) ⌝ }
 {
-    if le::read2(e, 28) != 0x5041 {
+    if le::read2(e, 28) != AP {
         return false;
     }
     under8(e, 30)
@@ -212,11 +225,11 @@ fn with_bit(word: u64, bit: u64) -> u64
 }
 
 // The rules of a record whose entries are given as bytes. It goes from the last entry to the first: an index counts where
-// no later entry has it, which the bit of its number in marks tells.
+// no later entry has it, which its bit in marks tells. Marks has a bit for each index of 16 bits.
 fn whole_good(entries: &[u8], tracks: u64, uids: u64, channels: u64) -> bool
     ensures { λ r. ⌜ r ≡ wholeGood channels (wholeOf tracks uids (now (entries .entry))) ⌝ }
 {
-    let mut left = entries.len() / 40;
+    let mut left = entries.len() / Chna::ENTRY;
     if Chna::LIMIT < left {
         return false;
     }
@@ -225,19 +238,19 @@ fn whole_good(entries: &[u8], tracks: u64, uids: u64, channels: u64) -> bool
     let mut used: u64 = 0;
     while 0 < left {
         left -= 1;
-        let at = left * 40;
-        let end = at + 40;
+        let at = left * Chna::ENTRY;
+        let end = at + Chna::ENTRY;
         let e = &entries[at..end];
         if !is_unused(e) {
             if !used_good(e, channels) {
                 return false;
             }
             let index = le::read2(e, 0);
-            let at = (index / 64) as usize;
+            let cell = (index / 64) as usize;
             let bit = index % 64;
-            let word = marks[at];
+            let word = marks[cell];
             different = different + 1 - bit_of(word, bit);
-            marks[at] = with_bit(word, bit);
+            marks[cell] = with_bit(word, bit);
             used += 1;
         }
     }
@@ -255,7 +268,7 @@ pub fn read(payload: &[u8], channels: u64) -> Reading
         return Reading::Refused(Refusal::BadChna);
     }
     let size = payload.len() - 4;
-    if size % 40 != 0 {
+    if size % Chna::ENTRY != 0 {
         return Reading::Refused(Refusal::BadChna);
     }
     let tracks = le::read2(payload, 0);
@@ -266,7 +279,7 @@ pub fn read(payload: &[u8], channels: u64) -> Reading
     Reading::Record(Chna {
         tracks,
         uids,
-        entries: (size / 40) as u64,
+        entries: (size / Chna::ENTRY) as u64,
     })
 }
 
@@ -274,10 +287,10 @@ pub fn read(payload: &[u8], channels: u64) -> Reading
 fn zero_pads(entries: &mut [u8])
     ensures { λ _. ⌜ now (entries .exit) ≡ padsOff (now (entries .entry)) ⌝ }
 {
-    let count = entries.len() / 40;
+    let count = entries.len() / Chna::ENTRY;
     let mut i = 0;
     while i < count {
-        let at = i * 40 + 39;
+        let at = i * Chna::ENTRY + 39;
         entries[at] = 0;
         i += 1;
     }
@@ -293,7 +306,7 @@ fn copy_entries(entries: &[u8], out: &mut [u8])
     zero_pads(&mut out[..size]);
 }
 
-// Copies a payload to the start of out, the pad of each entry as zero.
+// Copies a payload to the start of out, the pad of each entry as zero. It judges nothing: that is read's part.
 pub fn copy(payload: &[u8], out: &mut [u8])
     requires { ⌜ (4 ≤ length (now payload)) × (length (now payload) ≤ length (now out)) ⌝ }
     ensures { λ _. ⌜ now (out .exit) ≡ padsZeroed (now (payload .entry)) ++ drop (length (now (payload .entry))) (now (out .entry)) ⌝ }
@@ -302,12 +315,12 @@ pub fn copy(payload: &[u8], out: &mut [u8])
     copy_entries(&payload[4..], &mut out[4..]);
 }
 
-// Writes the payload of a record, whose entries are given as they stand in a payload, to the start of out. Their pads may
-// hold anything. A refusal changes no byte.
+// Writes the payload of a record, whose entries are given as they stand in a payload, to the start of out. The pad of a
+// used entry may hold anything, and is written as zero. A refusal changes no byte.
 pub fn write(tracks: u64, uids: u64, entries: &[u8], channels: u64, out: &mut [u8]) -> Written
     ensures { λ r. ⌜ Writes (chnaFrom channels tracks uids (now (entries .entry))) (now (out .entry)) (now (out .exit)) r ⌝ }
 {
-    if entries.len() % 40 != 0 {
+    if entries.len() % Chna::ENTRY != 0 {
         return Written::Refused(Refusal::BadRecord);
     }
     if !whole_good(entries, tracks, uids, channels) {
