@@ -99,8 +99,8 @@ unfoldable pub setOf : List ℕ → List ℕ
 unfolding pick
 setOf d = pick (allZero d) [] d
 
--- the rules of a payload, of "at least 602 bytes: Description 256, Originator 32, Reference 32, date 10, time 8, TimeReference low 4 and high 4,
--- Version 2, then 254 bytes, then the coding history to the end"
+-- the rules of a payload: "at least 602 bytes: Description 256, Originator 32, Reference 32, date 10, time 8,
+-- TimeReference low 4 and high 4, Version 2, then 254 bytes, then the coding history to the end"
 unfoldable pub rulesOf : List ℕ → List Bool
 rulesOf p =
     leb 602 (length p)
