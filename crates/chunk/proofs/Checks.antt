@@ -1,12 +1,11 @@
 -- The checks of a definition, one after the other: a link of the chain that answers is inverted by one law, and built by
 -- one. A caller cites these and never opens the combinators.
 -- Assumes nothing.
-use mathlib.Core.Path.{_≡_, refl, sym, _∙_, ap}
-use mathlib.Core.Bool.{Bool, true, false, not, _&&_, _||_}
-use mathlib.Core.List.{List, [], _∷_}
+use mathlib.Core.Path.{_≡_, refl}
+use mathlib.Core.Bool.{Bool, true, false, _&&_, _||_}
 use Prim.Native.Nat.{ℕ}
 use native.Mathlib.Omega.{arith}
-use Rattle.le.specs.Choice.{pick, every}
+use Rattle.le.specs.Choice.{pick}
 use Rattle.chunk.specs.declared.Refusal.{Refusal}
 use Rattle.chunk.specs.Refusals.{Answer, refused, given, check, andThen}
 
@@ -65,16 +64,16 @@ pub andThen-at : {A B : Type 0} (x : Answer A) (k : A → Answer B) (a : A) → 
 unfolding andThen
 andThen-at x k a e = rw e
 
--- ---- every rule
+pub andThen-refused : {A B : Type 0} (x : Answer A) (k : A → Answer B) (r : Refusal) → x ≡ refused r → andThen x k ≡ refused r
+unfolding andThen
+andThen-refused x k r e = rw e
 
-pub every-cons : (b : Bool) (bs : List Bool) → every (b ∷ bs) ≡ true → (b ≡ true) × (every bs ≡ true)
-unfolding every
-every-cons true bs e = (refl, e)
-every-cons false bs e = absurd (true-false false e refl)
+-- ---- a rule of `every`, and the rules after it
 
-pub every-all : (b : Bool) (bs : List Bool) → b ≡ true → every bs ≡ true → every (b ∷ bs) ≡ true
-unfolding every
-every-all b bs e f = rw e f
+pub rule-and : (b c : Bool) → pick b c false ≡ true → (b ≡ true) × (c ≡ true)
+unfolding pick
+rule-and true c e = (refl, e)
+rule-and false c e = absurd (true-false false e refl)
 
 -- ---- tests joined
 
@@ -85,3 +84,7 @@ and-true false b e = absurd (true-false false e refl)
 pub or-true : (a b : Bool) → (a ≡ false → b ≡ true) → a || b ≡ true
 or-true true b h = refl
 or-true false b h = h refl
+
+pub or-false : (a b : Bool) → a || b ≡ true → a ≡ false → b ≡ true
+or-false true b e f = absurd (true-false true refl f)
+or-false false b e f = e

@@ -3,16 +3,14 @@
 -- by induction on rows that are laid.
 -- Assumes nothing.
 use mathlib.Core.Path.{_≡_, refl, sym, _∙_, ap, subst}
-use mathlib.Core.Bool.{Bool, true, false}
 use mathlib.Core.Logic.{_⊎_, inl, inr}
 use mathlib.Core.List.{List, [], _∷_, List·Memᴰ, List·Memᴰ·head, List·Memᴰ·tail, List·Memᴰ·not-nil, List·Memᴰ·cases-cons}
-use Prim.Native.Nat.{ℕ, zero, suc, _+_, _-_, _%_, _≤_, _<_}
+use Prim.Native.Nat.{ℕ, zero, suc, _+_, _-_, _%_, _≤_}
 use native.Mathlib.Omega.{arith}
 use lib.ListN.{length}
 use lib.Dec.{eqb, ltb, leb}
-use borrow.Author.Tests.{le-leb, leb-true, eq-eqb, ne-eqb, eqb-true, eqb-false, le-ltb, ltb-false}
+use borrow.Author.Tests.{le-leb, leb-true, eq-eqb, ne-eqb, eqb-true, eqb-false, le-ltb}
 use Rattle.le.specs.Number.{number}
-use Rattle.le.specs.Choice.{pick}
 use Rattle.chunk.specs.declared.Entry.{Entry}
 use Rattle.chunk.specs.declared.Refusal.{Refusal}
 use Rattle.chunk.specs.declared.Refusal.the-variants.{CutHeader, TooMany, NoSize, PastEnd}
@@ -40,6 +38,22 @@ pub data Laid (rule : Rule) (s : List ℕ) : ℕ → List Entry → Type 0 where
 pub row-fits : {rule : Rule} {s : List ℕ} {at : ℕ} {e : Entry} → Row rule s at e → at + 8 ≤ length s
 unfolding past
 row-fits r = omega arith
+
+-- ---- where the next header is due
+
+-- "one pad byte if the payload is odd", and none if it is even
+pub past-odd : (e : Entry) → e .size % 2 ≡ 1 → past e ≡ e .place + e .size + 1
+unfolding past
+past-odd e h = ap (λ (n : ℕ). e .place + e .size + n) h
+
+pub past-even : (e : Entry) → e .size % 2 ≡ 0 → past e ≡ e .place + e .size
+unfolding past
+past-even e h = omega arith
+
+-- so every header stands at an even offset, as the first does
+pub past-aligned : (e : Entry) → e .place % 2 ≡ 0 → past e % 2 ≡ 0
+unfolding past
+past-aligned e h = omega arith
 
 -- ---- a step
 

@@ -22,6 +22,7 @@ use Rattle.chunk.specs.Names.{ONES}
 use Rattle.chunk.specs.Refusals.{Answer, refused, given}
 use Rattle.chunk.specs.Walks.{Rule, past, placed, sized, step, stepAt, Walked, follow, walk, ownSize}
 use Rattle.chunk.specs.Dues.{dueAt, stepFrom, stopOf}
+use Rattle.chunk.proofs.Laid.{Row, Found, ended, chunk, refusal, step-found, walk-chunk}
 
 -- ---- what is due
 
@@ -96,33 +97,33 @@ pub placed-out : (len : ℕ) (e : Entry) → len < past e → placed len e ≡ S
 unfolding placed
 placed-out len e h = rw (lt-leb (past e) len h)
 
-pub own-ones : (at name own : ℕ) → own ≡ ONES → ownSize at name own ≡ refused NoSize
-unfolding ownSize
-own-ones at name own e = rw (eq-eqb own ONES e)
+-- ---- the walk after a step
 
-pub own-size : (at name own : ℕ) → (own ≡ ONES → ⊥) → ownSize at name own ≡ given own
-unfolding ownSize
-own-size at name own n = rw (ne-eqb own ONES n)
+-- a chunk: there was room for it, it ends by the file's end, and the walk shows it and then what follows
+pub record Next (rule : Rule) (s : List ℕ) (room at : ℕ) (e : Entry) (to : ℕ) : Type 0 where
+  pub roomy : 1 ≤ room
+  pub inside : to ≤ length s
+  pub walks : walk rule s room at ≡ record { rows = e ∷ walk rule s (room - 1) to .rows; end = walk rule s (room - 1) to .end }
 
--- ---- the walk
+found-next : (rule : Rule) (s : List ℕ) (room at : ℕ) (e : Entry) (to : ℕ) (x : Step) → Found rule s room at x → x ≡ Chunk e to
+    → (1 ≤ room) × (to ≤ length s)
+found-next rule s room at e to x (ended p) q = absurd (let z : _≡_ {A = ℕ} 0 1 = cc in omega arith)
+found-next rule s room at e to x (refusal r) q = absurd (let z : _≡_ {A = ℕ} 0 1 = cc in omega arith)
+found-next rule s room at e to x (chunk {e = f} r row) q =
+    let there : past f ≡ to = cc in
+    (r, subst (λ (n : ℕ). n ≤ length s) there (row .ends))
 
-pub walk-stop : (rule : Rule) (s : List ℕ) (room at : ℕ) (v : Verdict) → stepAt rule s room at ≡ Stop v
-    → walk rule s room at ≡ record { rows = []; end = v }
-unfolding walk follow
-walk-stop rule s zero at v e = rw e
-walk-stop rule s (suc room) at v e = rw e
-
--- a step with no room is no chunk, so a chunk leaves one header fewer
-pub chunk-room : (rule : Rule) (s : List ℕ) (at : ℕ) (e : Entry) (next : ℕ) → stepAt rule s 0 at ≡ Chunk e next → ⊥
-unfolding stepAt step
-chunk-room rule s at e next q = go (eqb at (length s)) (ltb (length s) (at + 8)) q
-  where
-    go : (a b : Bool) → pick a (Stop Accepted) (pick b (Stop (Refused CutHeader)) (Stop (Refused TooMany))) ≡ Chunk e next → ⊥
-    go true b q = let z : _≡_ {A = ℕ} 0 1 = cc in omega arith
-    go false true q = let z : _≡_ {A = ℕ} 0 1 = cc in omega arith
-    go false false q = let z : _≡_ {A = ℕ} 0 1 = cc in omega arith
-
-pub walk-chunk : (rule : Rule) (s : List ℕ) (room at : ℕ) (e : Entry) (next : ℕ) → stepAt rule s (suc room) at ≡ Chunk e next
-    → walk rule s (suc room) at ≡ record { rows = e ∷ walk rule s room next .rows; end = walk rule s room next .end }
-unfolding walk follow
-walk-chunk rule s room at e next q = rw q
+pub chunk-next : (rule : Rule) (s : List ℕ) (room at : ℕ) (e : Entry) (to : ℕ) → stepAt rule s room at ≡ Chunk e to
+    → Next rule s room at e to
+chunk-next rule s zero at e to q =
+    absurd (let f = found-next rule s 0 at e to _ (step-found rule s 0 at) q in omega (arith, f .0))
+chunk-next rule s (suc room) at e to q =
+    let f = found-next rule s (suc room) at e to _ (step-found rule s (suc room) at) q in
+    record {
+      roomy = f .0;
+      inside = f .1;
+      walks =
+          walk-chunk rule s room at e to q
+          ∙ ap (λ (k : ℕ). record { rows = e ∷ walk rule s k to .rows; end = walk rule s k to .end })
+          (let p : room ≡ suc room - 1 = omega arith in p);
+    }

@@ -36,17 +36,26 @@ unfolding pick
 entrySize name [] = refused NoSize
 entrySize name (k ∷ ks) = pick (eqb (k .name) name) (given (k .size)) (entrySize name ks)
 
--- an all-ones field: 7 in RIFF; "on data, the ds64 data size; on another chunk, the first entry of that name"
-unfoldable pub onesSize : Form → Ds64 → List Known → ℕ → Answer ℕ
+-- "on data, the ds64 data size; on another chunk, the first entry of that name"
+unfoldable pub knownSize : Ds64 → List Known → ℕ → Answer ℕ
 unfolding pick
+knownSize d ks name = pick (eqb name DATA) (given (d .audio)) (entrySize name ks)
+
+-- an all-ones field: 7 in RIFF, in the 64-bit forms what ds64 says
+unfoldable pub onesSize : Form → Ds64 → List Known → ℕ → Answer ℕ
+unfolding knownSize
 onesSize Riff d ks name = refused NoSize
-onesSize Rf64 d ks name = pick (eqb name DATA) (given (d .audio)) (entrySize name ks)
-onesSize Bw64 d ks name = pick (eqb name DATA) (given (d .audio)) (entrySize name ks)
+onesSize Rf64 d ks name = knownSize d ks name
+onesSize Bw64 d ks name = knownSize d ks name
+
+-- "A ds64 anywhere else, or in RIFF": a header of that name which is not first in a 64-bit form
+unfoldable pub strayDs64 : Form → ℕ → ℕ → Bool
+strayDs64 form at name = eqb name DS64 && not (isWide form && eqb at 12)
 
 -- The scan's size rule: "A ds64 anywhere else, or in RIFF, is refused"; "A size field that is not all ones is the true
 -- size"; else what the ds64 knows.
 unfoldable pub trueSize : Head → List Known → Rule
-unfolding check pick
+unfolding check pick strayDs64
 trueSize h ks at name own =
-    check (not (eqb name DS64 && not (isWide (h .form) && eqb at 12))) BadDs64
+    check (not (strayDs64 (h .form) at name)) BadDs64
     (pick (eqb own ONES) (onesSize (h .form) (h .ds64) ks name) (given own))

@@ -1,10 +1,24 @@
 // The forms RIFF, RF64 and BW64, the ds64 chunk, and the true sizes that it gives.
+pub mod opening;
+pub mod truesize;
+
+use chunk::Refusal;
 
 // The form that bytes 0 to 3 of a file name.
 pub enum Form {
     Riff,
     Rf64,
     Bw64,
+}
+
+impl Form {
+    pub const RIFF: u64 = 0x4646_4952;
+
+    pub const RF64: u64 = 0x3436_4652;
+
+    pub const BW64: u64 = 0x3436_5742;
+    // What bytes 8 to 11 of every form say.
+    pub const WAVE: u64 = 0x4556_4157;
 }
 
 // What ds64 says ahead of its entries (000 5.5, 002 2.4).
@@ -22,10 +36,32 @@ pub struct Ds64 {
 impl Ds64 {
     // The most entries that a ds64 may have.
     pub const LIMIT: u64 = 16;
+    // The payload's size without entries, and the size of an entry.
+    pub const LEAST: u64 = 28;
+
+    pub const ENTRY: u64 = 12;
 }
 
 // A form, with the ds64 of a 64-bit one; RIFF has one of zeros.
 pub struct Head {
     pub form: Form,
     pub ds64: Ds64,
+}
+
+// The form that a name stands for.
+pub enum Named {
+    Form(Form),
+    Unknown,
+}
+
+// What checks 1 to 5 answer.
+pub enum Opened {
+    Head(Head),
+    Refused(Refusal),
+}
+
+// A true size, or why none is known.
+pub enum Size {
+    Bytes(u64),
+    Refused(Refusal),
 }

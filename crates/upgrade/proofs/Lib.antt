@@ -1,1 +1,10 @@
 pub mod Cases
+pub mod Demand3
+pub mod Makes
+pub mod Outcomes
+pub mod Patches
+pub mod Renamed
+pub mod Stores
+pub mod Takes
+pub mod Thirds
+pub mod Upgraded

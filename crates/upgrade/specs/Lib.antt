@@ -1,2 +1,4 @@
 pub mod Upgrades
 pub mod Cases
+pub mod Demand3
+pub mod Words

@@ -1,1 +1,4 @@
 pub mod Scans
+pub mod Demand3
+pub mod Tallies
+pub mod Words

@@ -4,7 +4,8 @@ use mathlib.Core.Path.{_∙_, ap, sym}
 use lib.ListN.{length}
 use Rattle.chunk.specs.Walks.{sized, ownSize}
 use Rattle.chunk.specs.Dues.{stepFrom}
-use Rattle.chunk.proofs.Steps.{step-due, header-told, own-ones, own-size}
+use Rattle.chunk.proofs.Steps.{step-due, header-told}
+use Rattle.chunk.proofs.Laid.{own-ones, own-given}
 use borrow.Author.Needs.{needs}
 use Rattle.chunk.proofs.header.step32.Statement.{statement}
 use Rattle.chunk.proofs.header.step32.Tie as tie
@@ -46,7 +47,7 @@ returns-3 c =
     c .place .ensures
     ∙ sym (step-due ownSize (a .file .now) (a .room) (a .at)
     ∙ ap (stepFrom ownSize (length (a .file .now)) (a .at)) (sym (c .before .before .before .before .before .due .ensures) ∙ h .1)
-    ∙ ap (sized (length (a .file .now)) (a .at) _) (own-size _ _ _ (c .before .if1 .left)))
+    ∙ ap (sized (length (a .file .now)) (a .at) _) (own-given _ _ _ (c .before .if1 .left)))
 
 pub step32-spec : {M : Type 1} → statement M
 step32-spec =

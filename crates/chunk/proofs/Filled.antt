@@ -1,0 +1,56 @@
+-- Rows stored one after the other into words, and the number of rows last, make the table of them.
+-- Assumes nothing.
+use mathlib.Core.Path.{_≡_, refl, sym, ap, _∙_}
+use mathlib.Core.List.{List, [], _∷_, _++_, append-nil}
+use Prim.Native.Nat.{ℕ, zero, suc, _+_, _*_, _≤_, _<_}
+use native.Mathlib.Nat.{zero-add, add-zero}
+use native.Mathlib.Omega.{arith}
+use lib.ListN.{length, set, take, drop, length-append, length-set}
+use lib.Seq.{sets, sets-eq, length-sets}
+use Rattle.le.proofs.Laws.{sets-append}
+use Rattle.chunk.specs.declared.Entry.{Entry}
+use Rattle.chunk.specs.Tables.{rowWords, allWords, tabled, setRow}
+
+-- these rows stored from row i on, and then the number of all in word 0
+unfoldable pub filled : List ℕ → ℕ → List Entry → List ℕ
+filled w i [] = set w 0 i
+filled w i (e ∷ es) = filled (setRow w i e) (i + 1) es
+
+pub all-length : (rows : List Entry) → length (allWords rows) ≡ 4 * length rows
+unfolding allWords rowWords
+all-length [] = refl
+all-length (e ∷ es) = omega (arith, all-length es)
+
+pub row-length : (w : List ℕ) (i : ℕ) (e : Entry) → length (setRow w i e) ≡ length w
+unfolding setRow
+row-length w i e = length-sets w (1 + 4 * i) (rowWords e)
+
+filled-sets : (w : List ℕ) (i : ℕ) (rows : List Entry) → filled w i rows ≡ set (sets w (1 + 4 * i) (allWords rows)) 0 (i + length rows)
+unfolding filled allWords setRow rowWords
+filled-sets w i [] = rw add-zero
+filled-sets w i (e ∷ es) =
+    filled-sets (sets w (1 + 4 * i) (rowWords e)) (i + 1) es
+    ∙ ap (λ (l : List ℕ). set l 0 (i + 1 + length es))
+    (ap (λ (k : ℕ). sets (sets w (1 + 4 * i) (rowWords e)) k (allWords es)) (let p : 1 + 4 * (i + 1) ≡ 1 + 4 * i + 4 = omega arith in p)
+    ∙ sym (sets-append (rowWords e) (allWords es) w (1 + 4 * i)))
+    ∙ ap (λ (k : ℕ). set (sets w (1 + 4 * i) (rowWords e ++ allWords es)) 0 k) (let p : i + 1 + length es ≡ i + suc (length es) = omega arith in p)
+
+pub filled-tabled : (w : List ℕ) (rows : List Entry) → 1 + 4 * length rows ≤ length w → filled w 0 rows ≡ tabled rows w
+unfolding tabled
+filled-tabled [] rows h = absurd (omega arith)
+filled-tabled (x ∷ w) rows h =
+    filled-sets (x ∷ w) 0 rows
+    ∙ ap (λ (k : ℕ). set (sets (x ∷ w) k (allWords rows)) 0 (0 + length rows)) (let p : 1 + 4 * 0 ≡ suc 0 = omega arith in p)
+    ∙ ap (λ (l : List ℕ). set l 0 (0 + length rows)) (under 0 x (allWords rows) w)
+    ∙ ap (λ (k : ℕ). k ∷ sets w 0 (allWords rows)) (zero-add (length rows))
+    ∙ ap (λ (l : List ℕ). length rows ∷ l)
+    (sets-eq (allWords rows) w 0 (omega (arith, all-length rows))
+    ∙ ap (λ (k : ℕ). allWords rows ++ drop k w) (zero-add (length (allWords rows)) ∙ all-length rows)
+    ∙ ap (λ (l : List ℕ). allWords rows ++ l) (behind (4 * length rows)))
+  where
+    under : (i x : ℕ) (vs w : List ℕ) → sets (x ∷ w) (suc i) vs ≡ x ∷ sets w i vs
+    under i x [] w = refl
+    under i x (v ∷ vs) w = under (suc i) x vs (set w i v)
+
+    behind : (n : ℕ) → drop n w ≡ drop (1 + n) (x ∷ w)
+    behind n = ap (λ (k : ℕ). drop k (x ∷ w)) (let p : suc n ≡ 1 + n = omega arith in p)

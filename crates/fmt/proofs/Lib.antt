@@ -1,0 +1,4 @@
+pub mod Laws
+pub mod Payloads
+pub mod Outputs
+pub mod RoundTrip

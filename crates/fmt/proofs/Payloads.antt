@@ -1,0 +1,122 @@
+-- The payload of a record that can be written: it has as many bytes as the record's size says, and what the writer then
+-- answers and leaves.
+-- Assumes nothing.
+use mathlib.Core.Path.{_≡_, refl, sym, ap, _∙_}
+use mathlib.Core.Bool.{true, false}
+use mathlib.Core.List.{List, [], _∷_, _++_}
+use mathlib.Core.Logic.{_⊎_, inl, inr}
+use Prim.Native.Nat.{ℕ, _+_, _*_, _≤_, _<_}
+use native.Mathlib.Nat.{zero-add}
+use native.Mathlib.Omega.{arith}
+use lib.ListN.{length, drop, length-append}
+use lib.Seq.{sets, sets-eq}
+use lib.Dec.{eqb}
+use borrow.Author.Tests.{eq-eqb, eqb-true, le-leb, lt-leb}
+use Rattle.le.specs.Number.{bytes}
+use Rattle.le.proofs.Laws.{sets-append}
+use Rattle.chunk.specs.declared.Refusal.the-variants.{BadRecord, NoRoom}
+use Rattle.chunk.specs.declared.Written.the-variants as written
+use Rattle.chunk.specs.Refusals.{Answer, refused, given}
+use Rattle.chunk.specs.Writes.{fitting, writtenOf, outputOf}
+use Rattle.chunk.proofs.Checks.{check-true, check-false, check-given, given-inj}
+use Rattle.fmt.specs.declared.Format.{Format}
+use Rattle.fmt.specs.Formats.{recordGood}
+use Rattle.fmt.specs.Writing.{headBytes, extraBytes, formatBytes, fieldsFit, writable, formatOut, Writes}
+use Rattle.fmt.proofs.Laws.{all, every-of, good, size-cases, Fits, fits, fits-of, extra-16, extra-18, extra-40}
+
+-- ---- lengths
+
+head-length : (f : Format) → length (headBytes f) ≡ 16
+unfolding headBytes bytes
+head-length f = refl
+
+extra-length : (f : Format) → recordGood f ≡ true → 16 + length (extraBytes f) ≡ f .size
+unfolding bytes
+extra-length f h = cases (size-cases _ _ (good f h .size))
+  where
+    cases : (f .size ≡ 16) ⊎ ((f .size ≡ 18) ⊎ (f .size ≡ 40)) → 16 + length (extraBytes f) ≡ f .size
+    cases (inl e) = omega (arith, ap length (extra-16 f (omega arith) (omega arith)))
+    cases (inr (inl e)) = omega (arith, ap length (extra-18 f e))
+    cases (inr (inr e)) = omega (arith, ap length (extra-40 f e))
+
+pub payload-length : (f : Format) → recordGood f ≡ true → length (formatBytes f) ≡ f .size
+unfolding formatBytes
+payload-length f h = omega (arith, length-append (headBytes f) (extraBytes f), head-length f, extra-length f h)
+
+-- ---- records that can be written
+
+pub record Writable (f : Format) : Type 0 where
+  pub fit : Fits f
+  pub good : recordGood f ≡ true
+  pub product : f .byterate ≡ f .rate * f .block
+
+pub writable-true : (f : Format) → writable f ≡ true → Writable f
+unfolding writable
+writable-true f h =
+    let k = all (fieldsFit f ∷ recordGood f ∷ eqb (f .byterate) (f .rate * f .block) ∷ []) h in
+    record { fit = fits f (k .0); good = k .1 .0; product = eqb-true _ _ (k .1 .1 .0) }
+
+pub writable-of : (f : Format) → Writable f → writable f ≡ true
+unfolding writable
+writable-of f h =
+    every-of
+    (fieldsFit f ∷ recordGood f ∷ eqb (f .byterate) (f .rate * f .block) ∷ [])
+    (fits-of f (h .fit), (h .good, (eq-eqb _ _ (h .product), tt)))
+
+pub out-given : (f : Format) (bs : List ℕ) → formatOut f ≡ given bs → (writable f ≡ true) × (bs ≡ formatBytes f)
+unfolding formatOut
+out-given f bs h =
+    let k = check-given (writable f) BadRecord (given (formatBytes f)) bs h in
+    (k .0, sym (given-inj (formatBytes f) bs (k .1)))
+
+pub out-of : (f : Format) → writable f ≡ true → formatOut f ≡ given (formatBytes f)
+unfolding formatOut
+out-of f h = check-true (writable f) BadRecord (given (formatBytes f)) h
+
+pub size-least : (f : Format) → writable f ≡ true → 16 ≤ f .size
+size-least f h = omega (arith, extra-length f (writable-true f h .good))
+
+-- ---- what the writer answers and leaves
+
+pub refuse16 : (f : Format) (s : List ℕ) → writable f ≡ false → Writes f s s (written.Refused BadRecord)
+unfolding formatOut fitting writtenOf outputOf
+refuse16 f s h =
+    let e = check-false (writable f) BadRecord (given (formatBytes f)) h in
+    record {
+      answers = sym (ap (λ (a : Answer (List ℕ)). writtenOf (fitting s a)) e);
+      leaves = sym (ap (λ (a : Answer (List ℕ)). outputOf s (fitting s a)) e);
+    }
+
+module _ (f : Format) (s : List ℕ) (can : writable f ≡ true) where
+  reported : fitting s (formatOut f) ≡ fitting s (given (formatBytes f))
+  reported = ap (fitting s) (out-of f can)
+
+  long : length (formatBytes f) ≡ f .size
+  long = payload-length f (writable-true f can .good)
+
+  no-room : length s < f .size → fitting s (formatOut f) ≡ refused NoRoom
+  unfolding fitting
+  no-room h = reported ∙ check-false _ NoRoom (given (formatBytes f)) (lt-leb (length (formatBytes f)) (length s) (omega (arith, long)))
+
+  room : f .size ≤ length s → fitting s (formatOut f) ≡ given (formatBytes f)
+  unfolding fitting
+  room h = reported ∙ check-true _ NoRoom (given (formatBytes f)) (le-leb (length (formatBytes f)) (length s) (omega (arith, long)))
+
+  pub refuse15 : length s < f .size → Writes f s s (written.Refused NoRoom)
+  unfolding writtenOf outputOf
+  refuse15 h = record { answers = sym (ap writtenOf (no-room h)); leaves = sym (ap (outputOf s) (no-room h)) }
+
+  pub wrote : (t : List ℕ) → f .size ≤ length s → t ≡ sets (sets s 0 (headBytes f)) 16 (extraBytes f)
+      → Writes f s t (written.Bytes (f .size))
+  unfolding writtenOf outputOf formatBytes
+  wrote t h e =
+      record {
+        answers = ap written.Bytes (sym long) ∙ sym (ap writtenOf (room h));
+        leaves =
+            e
+            ∙ ap (λ (k : ℕ). sets (sets s 0 (headBytes f)) k (extraBytes f)) (sym (head-length f) ∙ sym (zero-add _))
+            ∙ sym (sets-append (headBytes f) (extraBytes f) s 0)
+            ∙ sets-eq (formatBytes f) s 0 (omega (arith, long))
+            ∙ ap (λ (k : ℕ). formatBytes f ++ drop k s) (zero-add (length (formatBytes f)))
+            ∙ sym (ap (outputOf s) (room h));
+      }

@@ -1,0 +1,4 @@
+pub mod Heads
+pub mod Known
+pub mod Opens
+pub mod Sizes

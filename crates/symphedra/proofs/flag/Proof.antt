@@ -1,0 +1,17 @@
+-- `symphedra::flag` meets its contract: the flag is known.
+-- Assumes nothing.
+use mathlib.Core.Path.{refl, sym, _∙_, ap}
+use Rattle.symphedra.specs.Exports.{flagOf}
+use Rattle.symphedra.proofs.flag.Statement.{statement}
+use Rattle.symphedra.proofs.flag.Tie as tie
+
+returns : tie.Need-returns
+unfolding flagOf
+returns c = sym (ap flagOf (c .if1 .taken))
+
+returns-2 : tie.Need-returns-2
+unfolding flagOf
+returns-2 c = sym (ap flagOf (c .if1 .left))
+
+pub flag-spec : {M : Type 1} → statement M
+flag-spec = tie.close (tie.spec returns returns-2)

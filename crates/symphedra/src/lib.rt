@@ -1,0 +1,175 @@
+// The C interface: what include/symphedra.h declares.
+//
+// A run is a pointer and a length. A number is returned: 0, or the document's number of a refusal. Where the words to
+// answer in are too few, that is 15, ahead of everything else, and no word changes.
+use upgrade::Target;
+use wave::Samples;
+ghost use mathlib.Core.Path.{_≡_};
+ghost use lib.Seq.{sets};
+ghost use Rattle.chunk.specs.Refusals.{verdictOf};
+ghost use Rattle.chunk.specs.Tables.{tabled};
+ghost use Rattle.fmt.specs.Formats.{formatIn, readAs as fmtRead};
+ghost use Rattle.bext.specs.Records.{bextIn, readAs as bextRead};
+ghost use Rattle.chna.specs.Records.{chnaIn, readAs as chnaRead};
+ghost use Rattle.wave.specs.Scans.{scan, rowsOf, walk32, samplesOf};
+ghost use Rattle.symphedra.specs.Exports.{Answers, Upgrades, samplesVerdict, samplesWords, fmtVerdict, fmtWords, flagOf, bextVerdict, bextWords, chnaVerdict, chnaWords, rf64, bw64};
+
+// The table of a file's chunks, or its refusal and no chunk.
+#[no_mangle]
+pub extern "C" fn symphedra_scan(file: &[u8], table: &mut [u64]) -> u32
+    ensures { λ r. ⌜ Answers 257 (verdictOf (scan (now (file .entry)))) (tabled (rowsOf (scan (now (file .entry)))) (now (table .entry))) (now (table .entry)) r (now (table .exit)) ⌝ }
+{
+    wave::scan_into(file, table).number()
+}
+
+// What the 32-bit walk shows, and its stop.
+#[no_mangle]
+pub extern "C" fn symphedra_walk32(file: &[u8], table: &mut [u64]) -> u32
+    ensures { λ r. ⌜ Answers 257 (walk32 (now (file .entry)) .end) (tabled (walk32 (now (file .entry)) .rows) (now (table .entry))) (now (table .entry)) r (now (table .exit)) ⌝ }
+{
+    wave::walk32_into(file, table).number()
+}
+
+// 1 and the sample count, or two zeros.
+#[no_mangle]
+pub extern "C" fn symphedra_sample_count(file: &[u8], out: &mut [u64]) -> u32
+    ensures { λ r. ⌜ Answers 2 (samplesVerdict (samplesOf (now (file .entry)))) (sets (now (out .entry)) 0 (samplesWords (samplesOf (now (file .entry))))) (now (out .entry)) r (now (out .exit)) ⌝ }
+{
+    if out.len() < 2 {
+        return 15;
+    }
+    match wave::sample_count(file) {
+        Samples::Count(n) => {
+            out[0] = 1;
+            out[1] = n;
+            0
+        }
+        Samples::None => {
+            out[0] = 0;
+            out[1] = 0;
+            0
+        }
+        Samples::Refused(r) => {
+            out[0] = 0;
+            out[1] = 0;
+            r.number()
+        }
+    }
+}
+
+// Upgrades a file to RF64 in place.
+#[no_mangle]
+pub extern "C" fn symphedra_upgrade_rf64(file: &mut [u8]) -> u32
+    ensures { λ r. ⌜ Upgrades rf64 (now (file .entry)) r (now (file .exit)) ⌝ }
+{
+    upgrade::upgrade(file, Target::Rf64).number()
+}
+
+// Upgrades a file to BW64 in place.
+#[no_mangle]
+pub extern "C" fn symphedra_upgrade_bw64(file: &mut [u8]) -> u32
+    ensures { λ r. ⌜ Upgrades bw64 (now (file .entry)) r (now (file .exit)) ⌝ }
+{
+    upgrade::upgrade(file, Target::Bw64).number()
+}
+
+// The nine words of a format record, or zeros.
+#[no_mangle]
+pub extern "C" fn symphedra_read_fmt(payload: &[u8], record: &mut [u64]) -> u32
+    ensures { λ r. ⌜ Answers 9 (fmtVerdict (fmtRead (formatIn (now (payload .entry))))) (sets (now («record» .entry)) 0 (fmtWords (fmtRead (formatIn (now (payload .entry)))))) (now («record» .entry)) r (now («record» .exit)) ⌝ }
+{
+    if record.len() < 9 {
+        return 15;
+    }
+    match fmt::read(payload) {
+        fmt::Reading::Record(f) => {
+            record[0] = f.size;
+            record[1] = f.tag;
+            record[2] = f.channels;
+            record[3] = f.rate;
+            record[4] = f.byterate;
+            record[5] = f.block;
+            record[6] = f.bits;
+            record[7] = f.valid;
+            record[8] = f.mask;
+            0
+        }
+        fmt::Reading::Refused(r) => {
+            record[0] = 0;
+            record[1] = 0;
+            record[2] = 0;
+            record[3] = 0;
+            record[4] = 0;
+            record[5] = 0;
+            record[6] = 0;
+            record[7] = 0;
+            record[8] = 0;
+            r.number()
+        }
+    }
+}
+
+// A flag as a number.
+fn flag(b: bool) -> u64
+    ensures { λ r. ⌜ r ≡ flagOf b ⌝ }
+{
+    if b { 1 } else { 0 }
+}
+
+// The eight words of a bext record, or zeros.
+#[no_mangle]
+pub extern "C" fn symphedra_read_bext(payload: &[u8], out: &mut [u64]) -> u32
+    ensures { λ r. ⌜ Answers 8 (bextVerdict (bextRead (bextIn (now (payload .entry))))) (sets (now (out .entry)) 0 (bextWords (bextRead (bextIn (now (payload .entry)))))) (now (out .entry)) r (now (out .exit)) ⌝ }
+{
+    if out.len() < 8 {
+        return 15;
+    }
+    match bext::read(payload) {
+        bext::Reading::Record(b) => {
+            out[0] = b.description;
+            out[1] = b.originator;
+            out[2] = b.reference;
+            out[3] = flag(b.date);
+            out[4] = flag(b.time);
+            out[5] = b.timeref;
+            out[6] = b.version;
+            out[7] = b.history;
+            0
+        }
+        bext::Reading::Refused(r) => {
+            out[0] = 0;
+            out[1] = 0;
+            out[2] = 0;
+            out[3] = 0;
+            out[4] = 0;
+            out[5] = 0;
+            out[6] = 0;
+            out[7] = 0;
+            r.number()
+        }
+    }
+}
+
+// The three words of a chna record, or zeros.
+#[no_mangle]
+pub extern "C" fn symphedra_read_chna(payload: &[u8], channels: u16, out: &mut [u64]) -> u32
+    ensures { λ r. ⌜ Answers 3 (chnaVerdict (chnaRead (chnaIn channels (now (payload .entry))))) (sets (now (out .entry)) 0 (chnaWords (chnaRead (chnaIn channels (now (payload .entry)))))) (now (out .entry)) r (now (out .exit)) ⌝ }
+{
+    if out.len() < 3 {
+        return 15;
+    }
+    match chna::read(payload, channels as u64) {
+        chna::Reading::Record(c) => {
+            out[0] = c.tracks;
+            out[1] = c.uids;
+            out[2] = c.entries;
+            0
+        }
+        chna::Reading::Refused(r) => {
+            out[0] = 0;
+            out[1] = 0;
+            out[2] = 0;
+            r.number()
+        }
+    }
+}

@@ -1,0 +1,10 @@
+pub mod Copies
+pub mod Counts
+pub mod Ends
+pub mod FirstHalf
+pub mod Loops
+pub mod Notes
+pub mod Scanned
+pub mod Surveys
+pub mod Tables
+pub mod Tallied

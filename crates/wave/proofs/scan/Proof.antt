@@ -1,0 +1,18 @@
+-- `wave::scan` meets its contract: the scan into words that are all zero.
+-- Assumes nothing.
+use Rattle.wave.proofs.Ends.{scan-value}
+use borrow.Author.Needs.{needs}
+use Rattle.wave.proofs.scan.Statement.{statement}
+use Rattle.wave.proofs.scan.Tie as tie
+
+slice-aggregate-scan-into : tie.Need-slice-aggregate-scan-into
+slice-aggregate-scan-into c = search needs
+
+scan-into-requires : tie.Need-scan-into-requires
+scan-into-requires c κs = search needs
+
+returns : tie.Need-returns
+returns c = scan-value _ _ _ (c .before .scan-into .ensures)
+
+pub scan-spec : {M : Type 1} → statement M
+scan-spec = tie.close (tie.spec slice-aggregate-scan-into scan-into-requires returns)

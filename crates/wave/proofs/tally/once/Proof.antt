@@ -1,0 +1,31 @@
+-- `wave::tally::once` meets its contract: in each arm what was met is known.
+-- Assumes nothing.
+use mathlib.Core.Path.{_≡_, refl, sym, _∙_, ap, subst}
+use Rattle.wave.specs.Tallies.{metOnce}
+use borrow.Author.Needs.{needs}
+use Rattle.wave.proofs.tally.once.Statement.{statement}
+use Rattle.wave.proofs.tally.once.Tie as tie
+
+enum-told : tie.Need-enum-told
+enum-told c = search needs
+
+enum-told-2 : tie.Need-enum-told-2
+enum-told-2 c = search needs
+
+enum-told-3 : tie.Need-enum-told-3
+enum-told-3 c = search needs
+
+returns : tie.Need-returns
+unfolding metOnce
+returns c = sym (ap metOnce (c .enum-told .given .1))
+
+returns-2 : tie.Need-returns-2
+unfolding metOnce
+returns-2 c = sym (ap metOnce (c .enum-told2 .given .1))
+
+returns-3 : tie.Need-returns-3
+unfolding metOnce
+returns-3 c = sym (ap metOnce (c .enum-told3 .given .1))
+
+pub once-spec : {M : Type 1} → statement M
+once-spec = tie.close (tie.spec enum-told enum-told-2 enum-told-3 returns returns-2 returns-3)

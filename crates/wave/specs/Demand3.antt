@@ -1,0 +1,82 @@
+-- The customer's demand 3, first half, and what every accepted table is: the words of the statements, which proofs/ proves
+-- of every list of bytes.
+use Prim.Native.Nat.{ℕ, _+_, _-_, _≤_, _<_}
+use mathlib.Core.Path.{_≡_}
+use mathlib.Core.Bool.{true}
+use mathlib.Core.List.{List, [], _∷_, _++_, List·Memᴰ}
+use lib.ListN.{length}
+use lib.Dec.{eqb}
+use Rattle.le.specs.Number.{number}
+use Rattle.le.specs.Choice.{pick}
+use Rattle.chunk.specs.declared.Entry.{Entry}
+use Rattle.chunk.specs.declared.Refusal.the-variants.{NoSize}
+use Rattle.chunk.specs.declared.Verdict.{Verdict}
+use Rattle.chunk.specs.declared.Verdict.the-variants.{Accepted, Refused}
+use Rattle.chunk.specs.Names.{DS64, FMT, DATA, ONES}
+use Rattle.chunk.specs.Tables.{count, find}
+use Rattle.chunk.specs.Walks.{past}
+use Rattle.form.specs.Forms.{isWide}
+use Rattle.wave.specs.Scans.{Scan, walk32}
+
+-- ---- the first half
+
+-- a chunk's own size field, the four bytes ahead of its payload
+unfoldable pub ownField : List ℕ → Entry → ℕ
+ownField s e = number 4 (e .place - 4) s
+
+-- "the first chunk whose own size field is all ones": the rows ahead of it
+unfoldable pub ahead : List ℕ → List Entry → List Entry
+unfolding pick
+ahead s [] = []
+ahead s (e ∷ es) = pick (eqb (ownField s e) ONES) [] (e ∷ ahead s es)
+
+-- refusal 7 where there is such a chunk, else none
+unfoldable pub stop : List ℕ → List Entry → Verdict
+unfolding pick
+stop s [] = Accepted
+stop s (e ∷ es) = pick (eqb (ownField s e) ONES) (Refused NoSize) (stop s es)
+
+-- none of these rows has an all-ones field
+unfoldable pub Sized : List ℕ → List Entry → Type 0
+Sized s rows = (e : Entry) → List·Memᴰ e rows → ownField s e ≡ ONES → ⊥
+
+-- Of a file that the scan accepts, read with the plain 32-bit walk:
+pub record FirstHalf (s : List ℕ) (a : Scan) : Type 0 where
+  -- "It shows exactly the chunks ahead of the first chunk whose own size field is all ones, each as the scan's table shows
+  -- it and in that order, then stops there with refusal 7."
+  pub stops : (xs : List Entry) (e : Entry) (ys : List Entry) → a .rows ≡ xs ++ e ∷ ys → Sized s xs → ownField s e ≡ ONES
+      → walk32 s ≡ record { rows = xs; end = Refused NoSize }
+  -- "With no such chunk it shows the whole table and ends with no refusal."
+  pub whole : Sized s (a .rows) → walk32 s ≡ record { rows = a .rows; end = Accepted }
+  -- both at once, as one equation
+  pub walk : walk32 s ≡ record { rows = ahead s (a .rows); end = stop s (a .rows) }
+
+-- ---- what every accepted table is
+
+-- the rows stand end to end: each header starts where the chunk before it, pad and all, has ended, the first at the given
+-- offset, and the last chunk ends at the given end
+unfoldable pub EndToEnd : ℕ → List Entry → ℕ → Type 0
+EndToEnd at [] len = at ≡ len
+EndToEnd at (e ∷ es) len = (e .place ≡ at + 8) × EndToEnd (past e) es len
+
+-- Of a file that the scan accepts:
+pub record GoodTable (s : List ℕ) (a : Scan) : Type 0 where
+  -- "at most 64 chunks"; the table in file order, from byte 12 to the end of the file
+  pub most : length (a .rows) ≤ 64
+  pub endToEnd : EndToEnd 12 (a .rows) (length s)
+  -- each row has the name that its header has, and lies inside the file with its pad
+  pub named : (e : Entry) → List·Memᴰ e (a .rows) → e .name ≡ number 4 (e .place - 8) s
+  pub inside : (e : Entry) → List·Memᴰ e (a .rows) → (20 ≤ e .place) × (past e ≤ length s)
+  -- each row ends ahead of the header of every later one
+  pub apart : (xs : List Entry) (e : Entry) (ys : List Entry) → a .rows ≡ xs ++ e ∷ ys
+      → (f : Entry) → List·Memᴰ f ys → past e ≤ f .place - 8
+  -- "A size field that is not all ones is the true size."
+  pub own : (e : Entry) → List·Memᴰ e (a .rows) → (ownField s e ≡ ONES → ⊥) → e .size ≡ ownField s e
+  -- "exactly one fmt and one data, fmt first"
+  pub oneFmt : count FMT (a .rows) ≡ 1
+  pub oneData : count DATA (a .rows) ≡ 1
+  pub fmtFirst : find FMT (a .rows) .place < find DATA (a .rows) .place
+  -- "RF64 and BW64 must have ds64 as first chunk, at byte 12"; "A ds64 anywhere else, or in RIFF, is refused."
+  pub wide : isWide (a .head .form) ≡ true
+      → (e : Entry) × (es : List Entry) × (a .rows ≡ e ∷ es) × (e .name ≡ DS64) × (e .place ≡ 20)
+  pub ds64 : (e : Entry) → List·Memᴰ e (a .rows) → e .name ≡ DS64 → (isWide (a .head .form) ≡ true) × (e .place ≡ 20)
