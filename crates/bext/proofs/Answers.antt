@@ -1,0 +1,87 @@
+-- What each rule of a payload says of the reader's answer: one that is broken is 13, and none broken is the record.
+-- Assumes nothing.
+use mathlib.Core.Path.{_≡_, refl, sym, ap, _∙_}
+use mathlib.Core.Bool.{Bool, true, false, not, _||_}
+use mathlib.Core.List.{List, [], _∷_}
+use Prim.Native.Nat.{ℕ, zero, suc, _≤_}
+use native.Mathlib.Omega.{arith}
+use lib.ListN.{length, drop, getD}
+use lib.Dec.{eqb, leb}
+use borrow.Author.Tests.{le-leb}
+use Rattle.le.specs.Number.{field, number}
+use Rattle.le.specs.Choice.{pick, every}
+use Rattle.chunk.specs.declared.Refusal.the-variants.{BadBext}
+use Rattle.chunk.specs.Refusals.{check, given, refused}
+use Rattle.bext.specs.Records.{allZero, textOf, textGood, dateGood, timeGood, restGood, setOf, partOf, rulesOf, wholeIn, bextIn, readAs, numbersOf}
+use Rattle.bext.specs.declared.Part.{Part}
+use Rattle.bext.specs.declared.Part.the-variants as part
+use Rattle.bext.specs.declared.Reading.the-variants as reading
+
+true-false : true ≡ false → ⊥
+true-false e = let z : _≡_ {A = ℕ} 0 1 = cc in omega arith
+
+-- a list of rules fails where one does
+pub one-fails : (bs : List Bool) (k : ℕ) → getD bs k true ≡ false → every bs ≡ false
+unfolding every
+one-fails [] k e = e
+one-fails (true ∷ bs) zero e = absurd (true-false e)
+one-fails (true ∷ bs) (suc k) e = one-fails bs k e
+one-fails (false ∷ bs) k e = refl
+
+-- rule k of a payload is broken
+pub broken : (p : List ℕ) (k : ℕ) → getD (rulesOf p) k true ≡ false → reading.Refused BadBext ≡ readAs (bextIn p)
+unfolding bextIn readAs
+broken p k e = rw (one-fails (rulesOf p) k e)
+
+-- no rule of a payload is broken
+pub kept : (p : List ℕ) → every (rulesOf p) ≡ true → reading.Record (numbersOf (wholeIn p)) ≡ readAs (bextIn p)
+unfolding bextIn readAs
+kept p e = rw e
+
+-- ---- what a part holds says whether its rule is kept
+
+pub part-bad : (b : Bool) (n : ℕ) → partOf b n ≡ part.Bad → b ≡ false
+unfolding partOf
+part-bad true n e = let z : _≡_ {A = ℕ} 0 1 = cc in absurd (omega arith)
+part-bad false n e = refl
+
+pub part-kept : (b : Bool) (n m : ℕ) → partOf b n ≡ part.Length m → b ≡ true
+unfolding partOf
+part-kept true n m e = refl
+part-kept false n m e = let z : _≡_ {A = ℕ} 0 1 = cc in absurd (omega arith)
+
+pub part-length : (b : Bool) (n m : ℕ) → partOf b n ≡ part.Length m → m ≡ n
+unfolding partOf
+part-length true n m e = cc
+part-length false n m e = let z : _≡_ {A = ℕ} 0 1 = cc in absurd (omega arith)
+
+-- a part that keeps its rule, and its length
+pub record Kept (rule : Bool) (length found : ℕ) : Type 0 where
+  pub holds : rule ≡ true
+  pub is : found ≡ length
+
+pub part-good : {r : Part} (b : Bool) (n m : ℕ) → r ≡ partOf b n → r ≡ part.Length m → Kept b n m
+part-good b n m e f = record { holds = part-kept b n m (sym e ∙ f); is = part-length b n m (sym e ∙ f) }
+
+pub part-broken : {r : Part} (b : Bool) (n : ℕ) → r ≡ partOf b n → r ≡ part.Bad → b ≡ false
+part-broken b n e f = part-bad b n (sym e ∙ f)
+
+-- a payload all of whose rules are kept, and the record that its parts say
+pub accepted : (p : List ℕ) {d o r y t h reference version : ℕ} → 602 ≤ length p
+    → Kept (textGood (field 256 0 p)) (length (textOf (field 256 0 p))) d
+    → Kept (textGood (field 32 256 p)) (length (textOf (field 32 256 p))) o
+    → Kept (textGood (field 32 288 p)) (length (textOf (field 32 288 p))) r
+    → Kept (allZero (field 10 320 p) || dateGood (field 10 320 p)) (length (setOf (field 10 320 p))) y
+    → Kept (allZero (field 8 330 p) || timeGood (field 8 330 p)) (length (setOf (field 8 330 p))) t
+    → reference ≡ number 8 338 p
+    → version ≡ number 2 346 p
+    → restGood version (field 254 348 p) ≡ true
+    → Kept (textGood (drop 602 p)) (length (textOf (drop 602 p))) h
+    → reading.Record
+    record { description = d; originator = o; reference = r; date = not (eqb y 0); time = not (eqb t 0); timeref = reference; version = version; history = h }
+    ≡ readAs (bextIn p)
+unfolding rulesOf every numbersOf wholeIn
+accepted p l d o r y t f v e h =
+    rw (d .is, o .is, r .is, y .is, t .is, f, v, h .is)
+    (kept p
+    (rw (le-leb 602 (length p) l, d .holds, o .holds, r .holds, y .holds, t .holds, rw v at e, h .holds)))

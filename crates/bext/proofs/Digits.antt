@@ -1,0 +1,55 @@
+-- Two digits: what each test of them says of the whole rule.
+-- Assumes nothing.
+use mathlib.Core.Path.{_≡_, refl, sym, ap, _∙_}
+use mathlib.Core.Bool.{Bool, true, false, _&&_}
+use mathlib.Core.List.{List}
+use Prim.Native.Nat.{ℕ, _+_, _-_, _*_, _≤_}
+use native.Mathlib.Omega.{arith}
+use lib.ListN.{getD}
+use lib.Dec.{leb}
+use borrow.Author.Tests.{leb-true, ne-eqb}
+use Rattle.bext.specs.Records.{isDigit, twoDigits, isSeparator}
+
+-- a digit as a number
+abbrev pub units : ℕ → ℕ
+units b = b - 0x30
+
+pub and-true-first : (a b : Bool) → (a && b) ≡ true → a ≡ true
+and-true-first true b e = refl
+and-true-first false b e = e
+
+pub and-true-second : (a b : Bool) → (a && b) ≡ true → b ≡ true
+and-true-second true b e = e
+and-true-second false b e = absurd (false-true e)
+  where
+    false-true : false ≡ true → ⊥
+    false-true e = let z : _≡_ {A = ℕ} 0 1 = cc in omega arith
+
+pub digit-low : (b : ℕ) → isDigit b ≡ true → 0x30 ≤ b
+unfolding isDigit
+digit-low b e = leb-true 0x30 b (and-true-first (leb 0x30 b) (leb b 0x39) e)
+
+pub digit-high : (b : ℕ) → isDigit b ≡ true → b ≤ 0x39
+unfolding isDigit
+digit-high b e = leb-true b 0x39 (and-true-second (leb 0x30 b) (leb b 0x39) e)
+
+module _ (s : List ℕ) (at low high : ℕ) where
+  pub first-fails : isDigit (getD s at 0) ≡ false → twoDigits s at low high ≡ false
+  unfolding twoDigits
+  first-fails e = rw e
+
+  pub second-fails : isDigit (getD s at 0) ≡ true → isDigit (getD s (at + 1) 0) ≡ false → twoDigits s at low high ≡ false
+  unfolding twoDigits
+  second-fails d e = rw (d, e)
+
+  pub both-digits : isDigit (getD s at 0) ≡ true → isDigit (getD s (at + 1) 0) ≡ true
+      → twoDigits s at low high
+      ≡ (leb low (10 * units (getD s at 0) + units (getD s (at + 1) 0)) && leb (10 * units (getD s at 0) + units (getD s (at + 1) 0)) high)
+  unfolding twoDigits
+  both-digits d e = rw (d, e)
+
+-- a byte that is none of the five is no separator
+pub no-separator : (b : ℕ) → (b ≡ 0x2D → ⊥) → (b ≡ 0x5F → ⊥) → (b ≡ 0x3A → ⊥) → (b ≡ 0x20 → ⊥) → (b ≡ 0x2E → ⊥)
+    → isSeparator b ≡ false
+unfolding isSeparator
+no-separator b h u c s f = rw (ne-eqb b 0x2D h, ne-eqb b 0x5F u, ne-eqb b 0x3A c, ne-eqb b 0x20 s, ne-eqb b 0x2E f)

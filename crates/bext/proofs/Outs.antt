@@ -1,0 +1,125 @@
+-- A record that could have been read: its rules one by one, that its parts fit their places, and what the writer answers
+-- and leaves for it.
+-- Assumes nothing.
+use mathlib.Core.Path.{_≡_, refl, sym, ap, _∙_}
+use mathlib.Core.Bool.{Bool, true, false, _&&_, _||_}
+use mathlib.Core.List.{List, _++_}
+use Prim.Native.Nat.{ℕ, _+_, _^_, _≤_, _<_}
+use native.Mathlib.Omega.{arith}
+use borrow.Author.Tests.{leb-true, ltb-true, eqb-true, eqb-false, le-leb, lt-leb}
+use lib.ListN.{length, drop}
+use lib.Dec.{eqb, leb, ltb}
+use Rattle.chunk.specs.declared.Refusal.the-variants.{BadRecord, NoRoom}
+use Rattle.chunk.specs.declared.Written.the-variants as written
+use Rattle.chunk.specs.Refusals.{check, andThen}
+use Rattle.chunk.specs.Writes.{fitting, writtenOf, outputOf}
+use Rattle.chunk.proofs.Checks.{and-true}
+use Rattle.bext.specs.Records.{Whole, dateGood, timeGood, restGood, textGood, textOf}
+use Rattle.bext.specs.Writing.{textGiven, dateGiven, timeGiven, restGiven, writable, laid, bextOut, Fitting, Writes}
+
+-- ---- the rules, as far as each of them
+
+abbrev pub good2 : Whole → Bool
+good2 w = ltb (w .timeref) (256 ^ 8) && textGiven 256 (w .description)
+
+abbrev pub good3 : Whole → Bool
+good3 w = good2 w && textGiven 32 (w .originator)
+
+abbrev pub good4 : Whole → Bool
+good4 w = good3 w && textGiven 32 (w .reference)
+
+abbrev pub good5 : Whole → Bool
+good5 w = good4 w && dateGiven (w .date)
+
+abbrev pub good6 : Whole → Bool
+good6 w = good5 w && timeGiven (w .time)
+
+abbrev pub good7 : Whole → Bool
+good7 w = good6 w && ltb (w .version) (256 ^ 2)
+
+abbrev pub good8 : Whole → Bool
+good8 w = good7 w && restGiven (w .version) (w .rest)
+
+pub record Good (w : Whole) : Type 0 where
+  pub timeref : ltb (w .timeref) (256 ^ 8) ≡ true
+  pub description : textGiven 256 (w .description) ≡ true
+  pub originator : textGiven 32 (w .originator) ≡ true
+  pub reference : textGiven 32 (w .reference) ≡ true
+  pub date : dateGiven (w .date) ≡ true
+  pub time : timeGiven (w .time) ≡ true
+  pub version : ltb (w .version) (256 ^ 2) ≡ true
+  pub rest : restGiven (w .version) (w .rest) ≡ true
+  pub history : textGood (w .history) ≡ true
+
+pub good : (w : Whole) → writable w ≡ true → Good w
+unfolding writable
+good w e =
+    let e9 = and-true (good8 w) (textGood (w .history)) e in
+    let e8 = and-true (good7 w) (restGiven (w .version) (w .rest)) (e9 .0) in
+    let e7 = and-true (good6 w) (ltb (w .version) (256 ^ 2)) (e8 .0) in
+    let e6 = and-true (good5 w) (timeGiven (w .time)) (e7 .0) in
+    let e5 = and-true (good4 w) (dateGiven (w .date)) (e6 .0) in
+    let e4 = and-true (good3 w) (textGiven 32 (w .reference)) (e5 .0) in
+    let e3 = and-true (good2 w) (textGiven 32 (w .originator)) (e4 .0) in
+    let e2 = and-true (ltb (w .timeref) (256 ^ 8)) (textGiven 256 (w .description)) (e3 .0) in
+    record {
+      timeref = e2 .0;
+      description = e2 .1;
+      originator = e3 .1;
+      reference = e4 .1;
+      date = e5 .1;
+      time = e6 .1;
+      version = e7 .1;
+      rest = e8 .1;
+      history = e9 .1;
+    }
+
+pub all-good : (w : Whole) → Good w → writable w ≡ true
+unfolding writable
+all-good w g =
+    rw (g .timeref, g .description, g .originator, g .reference, g .date, g .time, g .version, g .rest, g .history)
+
+-- ---- the parts fit
+
+-- none, or n that are good
+length-given : (k n : ℕ) (b : Bool) → (eqb k 0 || eqb k n && b) ≡ true → k ≤ n
+length-given k n b e = first (eqb k 0) refl e
+  where
+    second : (t : Bool) → eqb k n ≡ t → (t && b) ≡ true → k ≤ n
+    second true f h = omega (arith, eqb-true k n f)
+    second false f h = let z : _≡_ {A = ℕ} 0 1 = cc in absurd (omega arith)
+
+    first : (t : Bool) → eqb k 0 ≡ t → (t || eqb k n && b) ≡ true → k ≤ n
+    first true f h = omega (arith, eqb-true k 0 f)
+    first false f h = second (eqb k n) refl h
+
+text-fits : (n : ℕ) (t : List ℕ) → textGiven n t ≡ true → length t ≤ n
+unfolding textGiven
+text-fits n t e = leb-true (length t) n (and-true (leb (length t) n) (eqb (length (textOf t)) (length t)) e .0)
+
+pub good-fits : (w : Whole) → Good w → Fitting w
+unfolding dateGiven timeGiven restGiven
+good-fits w g =
+    record {
+      description-fits = text-fits 256 (w .description) (g .description);
+      originator-fits = text-fits 32 (w .originator) (g .originator);
+      reference-fits = text-fits 32 (w .reference) (g .reference);
+      date-fits = length-given (length (w .date)) 10 (dateGood (w .date)) (g .date);
+      time-fits = length-given (length (w .time)) 8 (timeGood (w .time)) (g .time);
+      rest-fits = eqb-true (length (w .rest)) 254 (and-true (eqb (length (w .rest)) 254) (restGood (w .version) (w .rest)) (g .rest) .0);
+    }
+
+-- ---- the writer's answers
+
+pub refuses : (w : Whole) (out : List ℕ) → writable w ≡ false → Writes w out out (written.Refused BadRecord)
+unfolding bextOut fitting writtenOf outputOf
+refuses w out e = record { answers = rw e; leaves = rw e }
+
+pub lacks-room : (w : Whole) (out : List ℕ) → writable w ≡ true → length out < length (laid w) → Writes w out out (written.Refused NoRoom)
+unfolding bextOut fitting writtenOf outputOf
+lacks-room w out e h = record { answers = rw (e, lt-leb (length (laid w)) (length out) h); leaves = rw (e, lt-leb (length (laid w)) (length out) h) }
+
+pub writes : (w : Whole) (out : List ℕ) → writable w ≡ true → length (laid w) ≤ length out
+    → Writes w out (laid w ++ drop (length (laid w)) out) (written.Bytes (length (laid w)))
+unfolding bextOut fitting writtenOf outputOf
+writes w out e h = record { answers = rw (e, le-leb (length (laid w)) (length out) h); leaves = rw (e, le-leb (length (laid w)) (length out) h) }

@@ -1,0 +1,88 @@
+-- `bext::write` meets its contract: the record could not have been read, or the output is too short, or the payload is at
+-- its start.
+-- Assumes nothing.
+use mathlib.Core.Path.{_≡_, _∙_, ap, sym}
+use mathlib.Core.Bool.{Bool, true}
+use Prim.Native.Nat.{_+_, _^_, _≤_}
+use native.Mathlib.Omega.{arith}
+use borrow.Author.Needs.{needs}
+use borrow.Author.Tests.{lt-ltb, not-true, not-false}
+use lib.ListN.{length}
+use Rattle.chunk.specs.declared.Written.the-variants as written
+use Rattle.bext.specs.Records.{Whole}
+use Rattle.bext.specs.Writing.{restOf, writable, asked, laid, Writes}
+use Rattle.bext.proofs.Stores.{puts-front, laid-length}
+use Rattle.bext.proofs.Outs.{good, good-fits, refuses, lacks-room, writes}
+use Rattle.bext.proofs.write.Statement.{statement}
+use Rattle.bext.proofs.write.Tie as tie
+
+-- the record that the function is given
+abbrev whole : tie.Start → Whole
+whole c =
+    record {
+      description = c .args .description .now;
+      originator = c .args .originator .now;
+      reference = c .args .reference .now;
+      date = c .args .date .now;
+      time = c .args .time .now;
+      timeref = c .args .timeref;
+      version = c .args .version;
+      rest = restOf (c .args .rest .now);
+      history = c .args .history .now;
+    }
+
+-- what the test of the record says: a time reference of 64 bits always fits
+tested : (c : tie.After-record-good) → c .record-good .result ≡ writable (whole (c .before .before .before .before .before .before .before .before .before))
+unfolding writable asked
+tested c = rw (lt-ltb (c .before .before .before .before .before .before .before .before .before .args .timeref) (256 ^ 8) (c .before .before .before .before .before .before .before .before .before .fits .timeref .fits)) (c .record-good .ensures)
+
+size : (c : tie.Else1) → length (laid (whole (c .before .before .before .before .before .before .before .before .before .before))) ≡ 602 + length (c .before .before .before .before .before .before .before .before .before .before .args .history .now)
+size c =
+    let w = whole (c .before .before .before .before .before .before .before .before .before .before) in
+    laid-length w (good-fits w (good w (sym (tested (c .before)) ∙ not-false _ (c .if1 .left))))
+
+record-good-requires : tie.Need-record-good-requires
+record-good-requires c κs = search needs
+
+returns : tie.Need-returns
+unfolding asked
+returns c = refuses (whole (c .before .before .before .before .before .before .before .before .before .before)) (c .before .before .before .before .before .before .before .before .before .before .args .out .now) (sym (tested (c .before)) ∙ not-true _ (c .if1 .taken))
+
+add-size : tie.Need-add-size
+add-size c = search needs
+
+returns-2 : tie.Need-returns-2
+unfolding asked
+returns-2 c =
+    lacks-room (whole (c .before .before .before .before .before .before .before .before .before .before .before)) (c .before .before .before .before .before .before .before .before .before .before .before .args .out .now)
+    (sym (tested (c .before .before)) ∙ not-false _ (c .before .if1 .left))
+    (omega (arith, size (c .before), c .if2 .taken))
+
+store-requires : tie.Need-store-requires
+unfolding asked
+store-requires c κs =
+    let w = whole (c .before .before .before .before .before .before .before .before .before .before .before .before) in (
+      good-fits w (good w (sym (tested (c .before .before .before)) ∙ not-false _ (c .before .before .if1 .left))),
+      c .before .if2 .left,
+    )
+
+same-length : tie.Need-same-length
+same-length c = search needs
+
+returns-3 : tie.Need-returns-3
+unfolding asked
+returns-3 c =
+    let a = c .before .before .before .before .before .before .before .before .before .before .before .before .before .before .before in
+    let w = whole a in
+    let fits = size (c .before .before .before .before .before) in
+    let room : length (laid w) ≤ length (a .args .out .now) = omega (arith, fits, c .before .before .before .before .if2 .left) in
+    let wrote = writes w (a .args .out .now) (sym (tested (c .before .before .before .before .before .before)) ∙ not-false _ (c .before .before .before .before .before .if1 .left)) room in
+    record {
+      answers = ap written.Bytes (sym fits) ∙ wrote .answers;
+      leaves = c .before .before .store .ensures ∙ puts-front (a .args .out .now) (laid w) room ∙ wrote .leaves;
+    }
+
+pub write-spec : {M : Type 1} → statement M
+write-spec =
+    tie.close
+    (tie.spec record-good-requires returns add-size returns-2 store-requires same-length returns-3)

@@ -1,0 +1,104 @@
+-- Document 01, "bext" (001 4.3): the payload of a record, or 16.
+use mathlib.Core.Path.{_≡_}
+use Prim.Native.Nat.{ℕ, _+_, _-_, _^_, _≤_}
+use mathlib.Core.Bool.{Bool, _&&_, _||_}
+use mathlib.Core.List.{List, [], _∷_, _++_}
+use lib.ListN.{length, replicate}
+use lib.Dec.{eqb, leb, ltb}
+use Rattle.le.specs.Number.{bytes}
+use Rattle.le.specs.Choice.{pick}
+use Rattle.chunk.specs.declared.Refusal.the-variants.{BadRecord}
+use Rattle.chunk.specs.declared.Written.{Written}
+use Rattle.chunk.specs.Refusals.{Answer, given, check}
+use Rattle.chunk.specs.Writes.{fitting, writtenOf, outputOf}
+use Rattle.bext.specs.Records.{textOf, textGood, dateGood, timeGood, restGood, Whole}
+
+-- ---- a record that could have been read
+
+-- a text of at most n bytes, none of them zero
+unfoldable pub textGiven : ℕ → List ℕ → Bool
+textGiven n t = leb (length t) n && eqb (length (textOf t)) (length t)
+
+-- a date, or none for "not set"
+unfoldable pub dateGiven : List ℕ → Bool
+dateGiven d = eqb (length d) 0 || eqb (length d) 10 && dateGood d
+
+unfoldable pub timeGiven : List ℕ → Bool
+timeGiven t = eqb (length t) 0 || eqb (length t) 8 && timeGood t
+
+-- the 254 bytes after Version
+unfoldable pub restGiven : ℕ → List ℕ → Bool
+restGiven version rest = eqb (length rest) 254 && restGood version rest
+
+unfoldable pub writable : Whole → Bool
+writable w =
+    ltb (w .timeref) (256 ^ 8)
+    && textGiven 256 (w .description)
+    && textGiven 32 (w .originator)
+    && textGiven 32 (w .reference)
+    && dateGiven (w .date)
+    && timeGiven (w .time)
+    && ltb (w .version) (256 ^ 2)
+    && restGiven (w .version) (w .rest)
+    && textGood (w .history)
+
+-- ---- its payload
+
+-- a text and zeros after it, n bytes in all
+unfoldable pub padded : ℕ → List ℕ → List ℕ
+padded n t = t ++ replicate (n - length t) 0
+
+-- "Description 256, Originator 32, Reference 32, date 10, time 8, TimeReference low 4 and high 4, Version 2, then 254
+-- bytes, then the coding history to the end"
+unfoldable pub laid : Whole → List ℕ
+laid w =
+    padded 256 (w .description)
+    ++ padded 32 (w .originator)
+    ++ padded 32 (w .reference)
+    ++ padded 10 (w .date)
+    ++ padded 8 (w .time)
+    ++ bytes 8 (w .timeref)
+    ++ bytes 2 (w .version)
+    ++ w .rest
+    ++ w .history
+
+-- the payload of a record, or 16
+unfoldable pub bextOut : Whole → Answer (List ℕ)
+unfolding check
+bextOut w = check (writable w) BadRecord (given (laid w))
+
+-- ---- the writer
+
+-- the 254 bytes that a writer is given: none at all stand for zeros
+unfoldable pub restOf : List ℕ → List ℕ
+unfolding pick
+restOf rest = pick (eqb (length rest) 0) (replicate 254 0) rest
+
+-- the record that a writer is given, part by part
+unfoldable pub asked : List ℕ → List ℕ → List ℕ → List ℕ → List ℕ → ℕ → ℕ → List ℕ → List ℕ → Whole
+asked description originator reference date time timeref version rest history =
+    record {
+      description = description;
+      originator = originator;
+      reference = reference;
+      date = date;
+      time = time;
+      timeref = timeref;
+      version = version;
+      rest = restOf rest;
+      history = history;
+    }
+
+-- each part of a record fits its place
+pub record Fitting (w : Whole) : Type 0 where
+  pub description-fits : length (w .description) ≤ 256
+  pub originator-fits : length (w .originator) ≤ 32
+  pub reference-fits : length (w .reference) ≤ 32
+  pub date-fits : length (w .date) ≤ 10
+  pub time-fits : length (w .time) ≤ 8
+  pub rest-fits : length (w .rest) ≡ 254
+
+-- what the writer of a record answers and leaves in the output: 16, 15, or the payload at its start
+pub record Writes (w : Whole) (entry exit : List ℕ) (r : Written) : Type 0 where
+  pub answers : r ≡ writtenOf (fitting entry (bextOut w))
+  pub leaves : exit ≡ outputOf entry (fitting entry (bextOut w))
