@@ -1,0 +1,96 @@
+-- Reading and writing chna, one after the other: the record that was written is read back, and a payload that was read is
+-- written again but for its pads.
+-- Assumes nothing.
+use mathlib.Core.Path.{_≡_, refl, sym, ap, ap₂, _∙_, subst}
+use mathlib.Core.Bool.{Bool, true, false}
+use mathlib.Core.List.{List, [], _∷_, _++_}
+use Prim.Native.Nat.{ℕ, _+_, _-_, _/_, _%_, _≤_, _<_}
+use native.Mathlib.Omega.{arith}
+use lib.ListN.{length, take, drop, set, replicate, length-append, length-take, length-drop}
+use lib.Seq.{take-add}
+use lib.Dec.{eqb, leb}
+use borrow.Author.Tests.{leb-true, eqb-true}
+use Rattle.le.specs.Number.{Bytes, bytes, field, number, value}
+use Rattle.chunk.specs.declared.Refusal.the-variants.{BadChna, BadRecord}
+use Rattle.chunk.specs.Refusals.{Answer, refused, given, check}
+use Rattle.chna.specs.Ids.{isHex, fitsOne, fits, codes}
+use Rattle.chna.specs.Records.{entriesIn, entriesAt, entriesGood, entryIn, entryGood, usedIn, usedGood, indices, different, occurs, padsAt, Whole, wholeOf, wholeIn, wholeGood, lengthGood, chnaIn, payloadOf, chnaOut, chnaFrom, padsOff, padsZeroed}
+use Rattle.chna.proofs.Patterns.{first, second}
+use Rattle.chna.proofs.Answers.{checked, check-given, given-same, good-record, Accepted, accepted}
+use Rattle.chna.proofs.Back.{payload-length, payload-back, Sound, sound}
+use Rattle.chna.proofs.Payloads.{bytes-number, bytes-drop, payload-bytes}
+
+-- ---- writing, then reading
+
+-- whatever is written reads back as the record given
+pub written-reads-back : (channels : ℕ) (w : Whole) (bs : List ℕ) → chnaOut channels w ≡ given bs → chnaIn channels bs ≡ given w
+unfolding chnaOut
+written-reads-back channels w bs e =
+    let f = check-given (wholeGood channels w) BadRecord _ bs e in
+    ap (chnaIn channels) (sym (given-same (payloadOf w) bs (f .1)))
+    ∙ good-record channels (payloadOf w) (payload-length channels w (f .0)) (ap (wholeGood channels) (payload-back channels w (f .0)) ∙ f .0)
+    ∙ ap given (payload-back channels w (f .0))
+
+-- so does what the writer makes of two counts and the bytes of the entries
+pub bytes-read-back : (channels tracks uids : ℕ) (s bs : List ℕ) → chnaFrom channels tracks uids s ≡ given bs
+    → chnaIn channels bs ≡ given (wholeOf tracks uids s)
+unfolding chnaFrom
+bytes-read-back channels tracks uids s bs e =
+    written-reads-back channels (wholeOf tracks uids s) bs (check-given (eqb (length s % 40) 0) BadRecord _ bs e .1)
+
+-- ---- reading, then writing
+
+-- four bytes are the two counts
+counts : (p : List ℕ) → Bytes p → 4 ≤ length p → bytes 2 (number 2 0 p) ++ bytes 2 (number 2 2 p) ≡ take 4 p
+unfolding field
+counts p h n =
+    ap₂ (λ (a b : List ℕ). a ++ b) (bytes-number 2 0 p h (omega arith)) (bytes-number 2 2 p h (omega arith))
+    ∙ sym (take-add 2 2 p)
+
+long : (n : ℕ) → lengthGood n ≡ true → (4 ≤ n) × ((n - 4) % 40 ≡ 0)
+unfolding lengthGood
+long n e =
+    (leb-true 4 n (first (leb 4 n) (eqb ((n - 4) % 40) 0) e), eqb-true ((n - 4) % 40) 0 (second (leb 4 n) (eqb ((n - 4) % 40) 0) e))
+
+-- reading then writing gives the same bytes but for the pads
+pub read-writes-back : (channels : ℕ) (p : List ℕ) (w : Whole) → Bytes p → chnaIn channels p ≡ given w
+    → chnaOut channels w ≡ given (padsZeroed p)
+unfolding chnaOut wholeIn padsZeroed
+read-writes-back channels p w h e =
+    let a = accepted channels p w e in
+    let n = long (length p) (a .long) in
+    subst (λ (x : Whole). chnaOut channels x ≡ given (padsZeroed p)) (a .is)
+    (checked (wholeGood channels (wholeIn p)) BadRecord _ (a .good)
+    ∙ ap given
+    (payload-bytes (number 2 0 p) (number 2 2 p) (drop 4 p) (bytes-drop 4 p h) (omega (arith, length-drop 4 p, n .1))
+    ∙ ap (λ (l : List ℕ). l ++ padsOff (drop 4 p)) (counts p h (n .0))))
+
+-- so a payload with its pads zeroed holds the same record
+pub pads-zeroed-reads : (channels : ℕ) (p : List ℕ) (w : Whole) → Bytes p → chnaIn channels p ≡ given w
+    → chnaIn channels (padsZeroed p) ≡ given w
+pads-zeroed-reads channels p w h e = written-reads-back channels w (padsZeroed p) (read-writes-back channels p w h e)
+
+-- and an accepted payload has just one record
+pub one-record : (channels : ℕ) (p : List ℕ) (w v : Whole) → Bytes p → chnaIn channels p ≡ given w
+    → chnaOut channels v ≡ given (padsZeroed p) → v ≡ w
+one-record channels p w v h e f =
+    given-same v w (sym (written-reads-back channels v (padsZeroed p) f) ∙ pads-zeroed-reads channels p w h e)
+
+-- The pad of an entry that is zero but for it is not ignored: such an entry is a used one with index 0. So what zeroing the
+-- pads keeps is said of accepted payloads alone.
+abbrev pub stray : List ℕ
+stray = replicate 43 0 ++ (1 ∷ [])
+
+pub stray-pad : chnaIn 1 stray ≡ refused BadChna
+unfolding chnaIn check wholeIn wholeOf wholeGood lengthGood entriesIn entriesAt entriesGood entryIn entryGood usedIn usedGood indices different occurs fits fitsOne isHex codes number field value
+stray-pad = refl
+
+pub stray-zeroed : chnaIn 1 (padsZeroed stray) ≡ given (wholeOf 0 0 (replicate 40 0))
+unfolding chnaIn check wholeIn wholeOf wholeGood lengthGood entriesIn entriesAt entriesGood entryIn entryGood usedIn usedGood indices different occurs fits fitsOne isHex codes number field value padsZeroed padsOff padsAt
+stray-zeroed = refl
+
+-- the counts of an accepted payload are those of its entries
+pub counts-are : (channels : ℕ) (p : List ℕ) (w : Whole) → chnaIn channels p ≡ given w → Sound channels w
+counts-are channels p w e =
+    let a = accepted channels p w e in
+    sound channels w (subst (λ (x : Whole). wholeGood channels x ≡ true) (a .is) (a .good))

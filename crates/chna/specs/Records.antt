@@ -1,0 +1,187 @@
+-- Document 01, "chna" (002 8): the record that a payload holds, or 14; the payload of a record, or 16.
+use Prim.Native.Nat.{ℕ, zero, suc, _-_, _/_, _%_}
+use mathlib.Core.Path.{_≡_}
+use mathlib.Core.Bool.{Bool, true, false, _&&_, _||_}
+use mathlib.Core.List.{List, [], _∷_, _++_}
+use lib.ListN.{length, take, drop, set, replicate}
+use lib.Dec.{eqb, leb, ltb}
+use Rattle.le.specs.Number.{bytes, field, number}
+use Rattle.le.specs.Choice.{pick, every}
+use Rattle.chunk.specs.declared.Refusal.the-variants.{BadChna, BadRecord}
+use Rattle.chunk.specs.declared.Written.{Written}
+use Rattle.chunk.specs.Refusals.{Answer, refused, given, check}
+use Rattle.chunk.specs.Writes.{fitting, writtenOf, outputOf}
+use Rattle.chna.specs.Ids.{fits, UNUSED, UID, TRACK, CHANNEL, PACK, NOPACK}
+use Rattle.chna.specs.declared.Chna.{Chna}
+use Rattle.chna.specs.declared.Reading.{Reading}
+use Rattle.chna.specs.declared.Reading.the-variants as reading
+
+-- ---- an entry
+
+-- what a used entry says: its track index, UID, track reference and pack reference
+pub record Used : Type 0 where
+  pub index : ℕ
+  pub uid : List ℕ
+  pub track : List ℕ
+  pub pack : List ℕ
+
+pub data Entry : Type 0 where
+  unused : Entry
+  used : Used → Entry
+
+-- "entries of 40 bytes: track index (16 bits), UID 12, track reference 14, pack reference 11, one pad"
+unfoldable pub usedIn : List ℕ → Used
+usedIn e =
+    record {
+      index = number 2 0 e;
+      uid = field 12 2 e;
+      track = field 14 14 e;
+      pack = field 11 28 e;
+    }
+
+-- "An unused entry is 40 zero bytes"
+unfoldable pub entryIn : List ℕ → Entry
+unfolding pick
+entryIn e = pick (fits UNUSED e) unused (used (usedIn e))
+
+-- "A used one has an index from 1 to the channel count", in its 16 bits, and identifiers of the forms above
+unfoldable pub usedGood : ℕ → Used → Bool
+unfolding every
+usedGood channels u =
+    every
+    (leb 1 (u .index)
+    ∷ leb (u .index) channels
+    ∷ ltb (u .index) 65536
+    ∷ fits UID (u .uid)
+    ∷ (fits TRACK (u .track) || fits CHANNEL (u .track))
+    ∷ (fits PACK (u .pack) || fits NOPACK (u .pack))
+    ∷ [])
+
+unfoldable pub entryGood : ℕ → Entry → Bool
+entryGood channels unused = true
+entryGood channels (used u) = usedGood channels u
+
+-- ---- the entries
+
+-- the first n entries
+unfoldable pub entriesAt : ℕ → List ℕ → List Entry
+entriesAt zero s = []
+entriesAt (suc n) s = entryIn (take 40 s) ∷ entriesAt n (drop 40 s)
+
+unfoldable pub entriesIn : List ℕ → List Entry
+entriesIn s = entriesAt (length s / 40) s
+
+unfoldable pub entriesGood : ℕ → List Entry → Bool
+unfolding pick
+entriesGood channels [] = true
+entriesGood channels (e ∷ es) = pick (entryGood channels e) (entriesGood channels es) false
+
+-- the track indices of the used entries
+unfoldable pub indices : List Entry → List ℕ
+indices [] = []
+indices (unused ∷ es) = indices es
+indices (used u ∷ es) = u .index ∷ indices es
+
+unfoldable pub occurs : ℕ → List ℕ → Bool
+unfolding pick
+occurs i [] = false
+occurs i (j ∷ js) = pick (eqb j i) true (occurs i js)
+
+-- how many different numbers a list has: one counts where it does not occur again
+unfoldable pub different : List ℕ → ℕ
+unfolding pick
+different [] = 0
+different (i ∷ is) = pick (occurs i is) (different is) (suc (different is))
+
+-- ---- the record
+
+-- A record whole: "track count and UID count (16 bits each), then N entries".
+pub record Whole : Type 0 where
+  pub tracks : ℕ
+  pub uids : ℕ
+  pub entries : List Entry
+
+-- "N at most 1,024"; every entry good; "The UID count is the number of used entries, the track count the number of
+-- different indices in them"
+unfoldable pub wholeGood : ℕ → Whole → Bool
+unfolding every
+wholeGood channels w =
+    every
+    (leb (length (w .entries)) 1024
+    ∷ entriesGood channels (w .entries)
+    ∷ eqb (w .uids) (length (indices (w .entries)))
+    ∷ eqb (w .tracks) (different (indices (w .entries)))
+    ∷ [])
+
+-- the record of two counts and the bytes of the entries
+unfoldable pub wholeOf : ℕ → ℕ → List ℕ → Whole
+wholeOf tracks uids s = record { tracks = tracks; uids = uids; entries = entriesIn s }
+
+-- ---- reading
+
+unfoldable pub wholeIn : List ℕ → Whole
+wholeIn p = wholeOf (number 2 0 p) (number 2 2 p) (drop 4 p)
+
+-- "The payload is 4 + 40N"
+unfoldable pub lengthGood : ℕ → Bool
+lengthGood n = leb 4 n && eqb ((n - 4) % 40) 0
+
+-- the record that a payload holds, or 14
+unfoldable pub chnaIn : ℕ → List ℕ → Answer Whole
+unfolding check
+chnaIn channels p =
+    check (lengthGood (length p)) BadChna
+    (check (wholeGood channels (wholeIn p)) BadChna
+    (given (wholeIn p)))
+
+-- the record by numbers
+unfoldable pub numbersOf : Whole → Chna
+numbersOf w = record { tracks = w .tracks; uids = w .uids; entries = length (w .entries) }
+
+-- the reader's answer: the record, whose entries stay in the payload, or the refusal
+unfoldable pub readAs : Answer Whole → Reading
+readAs (refused r) = reading.Refused r
+readAs (given w) = reading.Record (numbersOf w)
+
+-- ---- writing
+
+-- 40 bytes of an entry, the pad "written as zero"
+unfoldable pub entryBytes : Entry → List ℕ
+entryBytes unused = replicate 40 0
+entryBytes (used u) = bytes 2 (u .index) ++ u .uid ++ u .track ++ u .pack ++ (0 ∷ [])
+
+unfoldable pub entriesBytes : List Entry → List ℕ
+entriesBytes [] = []
+entriesBytes (e ∷ es) = entryBytes e ++ entriesBytes es
+
+unfoldable pub payloadOf : Whole → List ℕ
+payloadOf w = bytes 2 (w .tracks) ++ bytes 2 (w .uids) ++ entriesBytes (w .entries)
+
+-- the payload of a record, or 16
+unfoldable pub chnaOut : ℕ → Whole → Answer (List ℕ)
+unfolding check
+chnaOut channels w = check (wholeGood channels w) BadRecord (given (payloadOf w))
+
+-- the same of a record whose entries are given as bytes, 40 for each
+unfoldable pub chnaFrom : ℕ → ℕ → ℕ → List ℕ → Answer (List ℕ)
+unfolding check
+chnaFrom channels tracks uids s = check (eqb (length s % 40) 0) BadRecord (chnaOut channels (wholeOf tracks uids s))
+
+-- what the writer answers and leaves in its output
+pub record Writes (a : Answer (List ℕ)) (entry exit : List ℕ) (r : Written) : Type 0 where
+  pub answers : r ≡ writtenOf (fitting entry a)
+  pub leaves : exit ≡ outputOf entry (fitting entry a)
+
+-- ---- pads
+
+-- the first n entries with byte 39 of each as zero, and the rest
+unfoldable pub padsAt : ℕ → List ℕ → List ℕ
+padsAt zero s = s
+padsAt (suc n) s = set (take 40 s) 39 0 ++ padsAt n (drop 40 s)
+
+unfoldable pub padsOff : List ℕ → List ℕ
+padsOff s = padsAt (length s / 40) s
+
+-- a payload with its pads as zero: "the file writer zeroes it too"
+unfoldable pub padsZeroed : List ℕ → List ℕ
+padsZeroed p = take 4 p ++ padsOff (drop 4 p)
