@@ -1,5 +1,6 @@
 pub mod Copies
 pub mod Counts
+pub mod Ends
 pub mod FirstHalf
 pub mod Loops
 pub mod Notes

@@ -39,7 +39,7 @@ going-start rule s w h =
       same = refl;
       rows = ap (λ (k : ℕ). filled w 0 (walk rule s k 12 .rows)) z;
       end = ap (λ (k : ℕ). walk rule s k 12 .end) z;
-      count = omega (arith, ap (λ (k : ℕ). length (walk rule s k 12 .rows)) z)
+      count = omega (arith, ap (λ (k : ℕ). length (walk rule s k 12 .rows)) z);
     }
 
 -- a chunk: room for it, and the walk from here is it and the walk from the next offset
@@ -57,7 +57,7 @@ moves rule s used at e to q =
     record {
       less = omega arith;
       inside = n .inside;
-      walks = n .walks ∙ ap (λ (j : ℕ). record { rows = e ∷ walk rule s j to .rows; end = walk rule s j to .end }) k
+      walks = n .walks ∙ ap (λ (j : ℕ). record { rows = e ∷ walk rule s j to .rows; end = walk rule s j to .end }) k;
     }
 
 pub going-next : (rule : Rule) (s w₀ w v : List ℕ) (at used : ℕ) (e : Entry) (to : ℕ) → Going rule s w₀ w at used
@@ -72,7 +72,7 @@ going-next rule s w₀ w v at used e to g q p =
       same = row-length w used e ∙ g .same;
       rows = sym (ap (λ (x : Walked). filled w used (x .rows)) (m .walks)) ∙ g .rows;
       end = sym (ap (λ (x : Walked). x .end) (m .walks)) ∙ g .end;
-      count = omega (arith, g .count, ap (λ (x : Walked). length (x .rows)) (m .walks))
+      count = omega (arith, g .count, ap (λ (x : Walked). length (x .rows)) (m .walks));
     })
 
 -- a stop: the verdict and the table are those of the whole walk
@@ -90,7 +90,7 @@ going-stop rule s w₀ w at used v g l q =
     record {
       verdict = sym (ap (λ (x : Walked). x .end) e) ∙ g .end;
       words =
-        sym (ap (λ (x : Walked). filled w used (x .rows)) e) ∙ g .rows
-        ∙ filled-tabled w₀ (all rule s .rows) (omega (arith, g .few, n));
-      count = n
+          sym (ap (λ (x : Walked). filled w used (x .rows)) e) ∙ g .rows
+          ∙ filled-tabled w₀ (all rule s .rows) (omega (arith, g .few, n));
+      count = n;
     }

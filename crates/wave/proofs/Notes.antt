@@ -32,9 +32,9 @@ noting-start h s w t l e =
     record {
       going = going-start (rule h s) s w l;
       tally =
-        ap (λ (x : Tally). tallied x (walk (rule h s) s (64 - 0) 12 .rows)) e
-        ∙ ap (λ (k : ℕ). tallied (tallyOf []) (walk (rule h s) s k 12 .rows)) (let z : 64 - 0 ≡ 64 = omega arith in z)
-        ∙ tallied-all (walk (rule h s) s 64 12 .rows)
+          ap (λ (x : Tally). tallied x (walk (rule h s) s (64 - 0) 12 .rows)) e
+          ∙ ap (λ (k : ℕ). tallied (tallyOf []) (walk (rule h s) s k 12 .rows)) (let z : 64 - 0 ≡ 64 = omega arith in z)
+          ∙ tallied-all (walk (rule h s) s 64 12 .rows);
     }
 
 pub noting-next : (h : Head) (s w₀ w v : List ℕ) (at used : ℕ) (t u : Tally) (e : Entry) (to : ℕ) → Noting h s w₀ w at used t
@@ -45,9 +45,9 @@ noting-next h s w₀ w v at used t u e to n q p r =
     record {
       going = going-next (rule h s) s w₀ w v at used e to (n .going) q p;
       tally =
-        ap (λ (x : Tally). tallied x (from (rule h s) s (used + 1) to .rows)) r
-        ∙ sym (ap (λ (x : Walked). tallied t (x .rows)) (m .walks))
-        ∙ n .tally
+          ap (λ (x : Tally). tallied x (from (rule h s) s (used + 1) to .rows)) r
+          ∙ sym (ap (λ (x : Walked). tallied t (x .rows)) (m .walks))
+          ∙ n .tally;
     }
 
 pub noting-stop : (h : Head) (s w₀ w : List ℕ) (at used : ℕ) (t : Tally) (v : Verdict) → Noting h s w₀ w at used t

@@ -112,15 +112,18 @@ scan-judge s h e q = go (chunksGood rows) refl
   where
     rows : List Entry
     rows = headers h s .rows
+
     listed : (b : Bool) → chunksGood rows ≡ b → listing s ≡ check b Chunks (given (record { head = h; rows = rows }))
     listed b g =
         andThen-at _ _ h e
         ∙ andThen-at _ _ rows (ap (λ (v : Verdict). endedAs v rows) q)
         ∙ ap (λ (c : Bool). check c Chunks (given (record { head = h; rows = rows }))) g
+
     same : (x : Answer Format)
         → judgedAs h (tallyOf rows) (length rows) x ≡ surveyOf (andThen x λ f. given (record { head = h; rows = rows; format = f }))
     same (refused r) = refl
     same (given f) = refl
+
     go : (b : Bool) → chunksGood rows ≡ b → judgeOf h (tallyOf rows) (length rows) s ≡ surveyOf (scan s)
     go false g =
         pick-false _ _ _ (tally-good rows ∙ g)
@@ -129,7 +132,7 @@ scan-judge s h e q = go (chunksGood rows) refl
         let c = good-chunked rows g in
         pick-true _ _ _ (tally-good rows ∙ g)
         ∙ ap (judgedAs h (tallyOf rows) (length rows))
-          (ap₂ (λ (m d : Met). judged (field (sizeOf m) (placeOf m) s) (sizeOf d)) (met-one FMT rows (c .oneFmt)) (met-one DATA rows (c .oneData)))
+        (ap₂ (λ (m d : Met). judged (field (sizeOf m) (placeOf m) s) (sizeOf d)) (met-one FMT rows (c .oneFmt)) (met-one DATA rows (c .oneData)))
         ∙ same (judged (payload (find FMT rows) s) (find DATA rows .size))
         ∙ sym (ap surveyOf (andThen-at (listing s) _ (record { head = h; rows = rows }) (listed true g ∙ check-true true Chunks (given (record { head = h; rows = rows })) refl)))
 
@@ -148,10 +151,10 @@ unfolding ds64At
 entries-fit s h e =
     record {
       inside = λ w.
-        let o = head-opened s h e in
-        let g = wide-head (h .form) s h w (o .head) in
-        let r = ds64-rules _ _ _ _ (g .0) in
-        subst (λ (x : Head). 48 + 12 * x .ds64 .count ≤ length s) (sym (g .1)) (omega (arith, r .holds, r .ends))
+          let o = head-opened s h e in
+          let g = wide-head (h .form) s h w (o .head) in
+          let r = ds64-rules _ _ _ _ (g .0) in
+          subst (λ (x : Head). 48 + 12 * x .ds64 .count ≤ length s) (sym (g .1)) (omega (arith, r .holds, r .ends));
     }
 
 -- a file's first 12 bytes are there
@@ -164,11 +167,11 @@ unfolding headers tallyOf past sizeOf placeOf
 fmt-fits s h q =
     record {
       inside = λ g.
-        let rows = headers h s .rows in
-        let c = good-chunked rows (sym (tally-good rows) ∙ g) in
-        let l = laid-lies (walk-laid (trueSize h (entriesOf h s)) s 64 12 q .laid) (found FMT rows (omega (arith, c .oneFmt)) .mem) in
-        let m = met-one FMT rows (c .oneFmt) in
-        subst (λ (x : Met). placeOf x + sizeOf x ≤ length s) (sym m) (omega (arith, l .ends))
+          let rows = headers h s .rows in
+          let c = good-chunked rows (sym (tally-good rows) ∙ g) in
+          let l = laid-lies (walk-laid (trueSize h (entriesOf h s)) s 64 12 q .laid) (found FMT rows (omega (arith, c .oneFmt)) .mem) in
+          let m = met-one FMT rows (c .oneFmt) in
+          subst (λ (x : Met). placeOf x + sizeOf x ≤ length s) (sym m) (omega (arith, l .ends));
     }
 
 -- ---- the sample count

@@ -56,6 +56,7 @@ met-all name (e ∷ es) = go (eqb (e .name) name) (met-all name es)
     first : (n : ℕ) → after n (Once (e .place) (e .size)) ≡ metAs (suc n) e
     first zero = refl
     first (suc n) = refl
+
     go : (b : Bool) → metAll name Never es ≡ metAs (count name es) (find name es)
         → metAll name (pick b (Once (e .place) (e .size)) Never) es
         ≡ metAs (pick b (suc (count name es)) (count name es)) (pick b e (find name es))
@@ -85,7 +86,7 @@ tallied-names : (t : Tally) (rows : List Entry)
       audio = metAll DATA (t .audio) rows;
       fact = metAll FACT (t .fact) rows;
       bext = metAll BEXT (t .bext) rows;
-      chna = metAll CHNA (t .chna) rows
+      chna = metAll CHNA (t .chna) rows;
     }
 unfolding tallied metAll noted
 tallied-names t [] = refl
@@ -100,7 +101,7 @@ tallied-all rows =
       audio = met-all DATA rows i;
       fact = met-all FACT rows i;
       bext = met-all BEXT rows i;
-      chna = met-all CHNA rows i
+      chna = met-all CHNA rows i;
     })
 
 -- ---- check 10

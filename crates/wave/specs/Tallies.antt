@@ -28,7 +28,7 @@ tallyOf rows =
       audio = metIn DATA rows;
       fact = metIn FACT rows;
       bext = metIn BEXT rows;
-      chna = metIn CHNA rows
+      chna = metIn CHNA rows;
     }
 
 -- one chunk more
@@ -48,7 +48,7 @@ noted t e =
       audio = meeting DATA (t .audio) e;
       fact = meeting FACT (t .fact) e;
       bext = meeting BEXT (t .bext) e;
-      chna = meeting CHNA (t .chna) e
+      chna = meeting CHNA (t .chna) e;
     }
 
 -- check 10 of a tally
@@ -82,10 +82,10 @@ unfoldable pub tallyGood : Tally → Bool
 unfolding every
 tallyGood t =
     every
-      (metOnce (t .fmt)
-      ∷ metOnce (t .audio)
-      ∷ ltb (placeOf (t .fmt)) (placeOf (t .audio))
-      ∷ atMostOnce (t .bext)
-      ∷ atMostOnce (t .chna)
-      ∷ factGood (t .fact)
-      ∷ [])
+    (metOnce (t .fmt)
+    ∷ metOnce (t .audio)
+    ∷ ltb (placeOf (t .fmt)) (placeOf (t .audio))
+    ∷ atMostOnce (t .bext)
+    ∷ atMostOnce (t .chna)
+    ∷ factGood (t .fact)
+    ∷ [])

@@ -5,10 +5,11 @@
 pub mod listing;
 pub mod tally;
 
-use chunk::{Refusal, Table, Verdict};
+use chunk::Refusal;
+use chunk::Table;
+use chunk::Verdict;
 use listing::Survey;
 use tally::Met;
-
 ghost use mathlib.Core.Path.{_≡_};
 ghost use Rattle.wave.specs.Scans.{samplesOf};
 ghost use Rattle.wave.specs.Words.{ScanDone, WalkDone, scanTable, walkTable};

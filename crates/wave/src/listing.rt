@@ -1,10 +1,16 @@
 // The loops over the headers, and the judgement after the scan's.
-use chunk::{Name, Refusal, Step, Table, Verdict};
-use fmt::{Format, Reading};
-use form::{Form, Head, Opened};
 use super::Samples;
 use super::tally::Tally;
-
+use chunk::Name;
+use chunk::Refusal;
+use chunk::Step;
+use chunk::Table;
+use chunk::Verdict;
+use fmt::Format;
+use fmt::Reading;
+use form::Form;
+use form::Head;
+use form::Opened;
 ghost use mathlib.Core.Path.{_≡_};
 ghost use mathlib.Core.List.{_++_};
 ghost use Prim.Native.Nat.{_+_, _≤_};

@@ -1,6 +1,6 @@
 // What the scan keeps of the chunks it passes: how often each name that matters was met, and where.
-use chunk::{Entry, Name};
-
+use chunk::Entry;
+use chunk::Name;
 ghost use mathlib.Core.Path.{_≡_};
 ghost use mathlib.Core.List.{[]};
 ghost use Rattle.wave.specs.Tallies.{meeting, noted, tallyOf, metOnce, atMostOnce, factGood, placeOf, sizeOf, tallyGood};

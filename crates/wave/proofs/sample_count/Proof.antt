@@ -1,58 +1,66 @@
+-- `wave::sample_count` meets its contract: a law for each way that fact was met.
+-- Assumes nothing.
+use mathlib.Core.Path.{sym, _∙_, ap, ap₂}
+use Prim.Native.Nat.{ℕ}
+use Rattle.wave.specs.declared.listing.Known.{Known}
+use Rattle.wave.specs.Tallies.{tallyOf}
+use Rattle.wave.specs.Words.{countAt}
+use Rattle.wave.proofs.Counts.{samples-none, samples-fact, samples-given, samples-refused}
+use Rattle.wave.proofs.Ends.{survey-refused, survey-accepted, fact-once, fact-never, fact-more}
 use borrow.Author.Needs.{needs}
 use Rattle.wave.proofs.sample_count.Statement.{statement}
 use Rattle.wave.proofs.sample_count.Tie as tie
-use Rattle.wave.proofs.sample_count.Reads as reads
-use Rattle.wave.proofs.sample_count.Lts as lts
-use Rattle.wave.proofs.listing.examine.Reads as examine-reads
-use Rattle.wave.proofs.listing.fact_count.Reads as fact-count-reads
 
--- src/lib.rt:99:34
 slice-aggregate-examine : tie.Need-slice-aggregate-examine
 slice-aggregate-examine c = search needs
 
--- src/lib.rt:99:11
 examine-requires : tie.Need-examine-requires
 examine-requires c κs = search needs
 
--- src/lib.rt:100:25
 enum-known-r : tie.Need-enum-known-r
 enum-known-r c = search needs
 
--- src/lib.rt:101:26
 enum-known-a : tie.Need-enum-known-a
 enum-known-a c = search needs
 
--- src/lib.rt:105:27
 enum-known-fact : tie.Need-enum-known-fact
 enum-known-fact c = search needs
 
--- src/lib.rt:105:40
 fact-count-requires : tie.Need-fact-count-requires
-fact-count-requires c κs = ?
+unfolding tallyOf
+fact-count-requires c κs =
+    let k = survey-accepted _ _ (sym (c .before .before .before .before .before .before .before .before .examine .ensures .answer) ∙ c .before .before .before .before .before .a .given .1) in
+    fact-once _ _ _ _ (k .is) (sym (ap (λ (x : Known). x .tally .fact) (k .known)) ∙ c .before .fact .given .1) .inside
 
--- src/lib.rt:106:31
 enum-told : tie.Need-enum-told
 enum-told c = search needs
 
--- src/lib.rt:107:30
 enum-told-2 : tie.Need-enum-told-2
 enum-told-2 c = search needs
 
--- src/lib.rt:95:1
 returns : tie.Need-returns
-returns c = ?
+returns c = sym (samples-refused _ _ (survey-refused _ _ (sym (c .before .before .before .before .examine .ensures .answer) ∙ c .before .r .given .1)))
 
--- src/lib.rt:95:1
 returns-2 : tie.Need-returns-2
-returns-2 c = ?
+unfolding countAt tallyOf
+returns-2 c =
+    let k = survey-accepted _ _ (sym (c .before .before .before .before .before .before .before .before .before .examine .ensures .answer) ∙ c .before .before .before .before .before .before .a .given .1) in
+    let f = fact-once _ _ _ _ (k .is) (sym (ap (λ (x : Known). x .tally .fact) (k .known)) ∙ c .before .before .fact .given .1) in
+    c .fact-count .ensures
+    ∙ ap₂ (λ (x : Known) (p : ℕ). countAt (x .head) p (c .before .before .before .before .before .before .before .before .before .before .before .before .args .file .now)) (k .known) (f .place)
+    ∙ sym (samples-given _ _ (k .is) ∙ samples-fact (k .scan) _ (f .there))
 
--- src/lib.rt:95:1
 returns-3 : tie.Need-returns-3
-returns-3 c = ?
+unfolding tallyOf
+returns-3 c =
+    let k = survey-accepted _ _ (sym (c .before .before .before .before .before .before .before .examine .ensures .answer) ∙ c .before .before .before .before .a .given .1) in
+    sym (samples-given _ _ (k .is) ∙ samples-none (k .scan) _ (fact-never _ (sym (ap (λ (x : Known). x .tally .fact) (k .known)) ∙ c .enum-told .given .1)))
 
--- src/lib.rt:95:1
 returns-4 : tie.Need-returns-4
-returns-4 c = ?
+unfolding tallyOf
+returns-4 c =
+    let k = survey-accepted _ _ (sym (c .before .before .before .before .before .before .before .examine .ensures .answer) ∙ c .before .before .before .before .a .given .1) in
+    absurd (fact-more _ _ (k .is) (sym (ap (λ (x : Known). x .tally .fact) (k .known)) ∙ c .enum-told2 .given .1))
 
 pub sample-count-spec : {M : Type 1} → statement M
 sample-count-spec =

@@ -1,66 +1,71 @@
+-- `wave::scan_into` meets its contract: a law for each way that it ends.
+-- Assumes nothing.
+use mathlib.Core.Path.{sym, _∙_, ap}
+use Prim.Native.Nat.{ℕ, _+_, _*_}
+use native.Mathlib.Omega.{arith}
+use lib.ListN.{length-set}
+use Rattle.wave.specs.declared.listing.Known.{Known}
+use Rattle.wave.proofs.Ends.{survey-refused, survey-accepted, rows-few, scan-short, scan-refused, scan-accepted}
 use borrow.Author.Needs.{needs}
 use Rattle.wave.proofs.scan_into.Statement.{statement}
 use Rattle.wave.proofs.scan_into.Tie as tie
-use Rattle.wave.proofs.scan_into.Reads as reads
-use Rattle.wave.proofs.scan_into.Lts as lts
-use Rattle.wave.proofs.listing.copy_words.Reads as copy-words-reads
-use Rattle.wave.proofs.listing.examine.Reads as examine-reads
 
--- src/lib.rt:38:9
 returns : tie.Need-returns
-returns c = ?
+returns c = scan-short _ _ (c .if1 .taken)
 
--- src/lib.rt:41:34
 slice-aggregate-examine : tie.Need-slice-aggregate-examine
 slice-aggregate-examine c = search needs
 
--- src/lib.rt:41:11
 examine-requires : tie.Need-examine-requires
 examine-requires c κs = search needs
 
--- src/lib.rt:42:25
 enum-known-r : tie.Need-enum-known-r
 enum-known-r c = search needs
 
--- src/lib.rt:43:13
 slice-write-words : tie.Need-slice-write-words
-slice-write-words c = search needs
+slice-write-words c = omega arith
 
--- src/lib.rt:46:26
 enum-known-a : tie.Need-enum-known-a
 enum-known-a c = search needs
 
--- src/lib.rt:48:33
 slice-aggregate-copy-words : tie.Need-slice-aggregate-copy-words
 slice-aggregate-copy-words c = search needs
 
--- src/lib.rt:48:51
 mul-copy-words : tie.Need-mul-copy-words
-mul-copy-words c = ?
+mul-copy-words c =
+    let k = survey-accepted _ _ (sym (c .before .before .before .before .before .before .examine .ensures .answer) ∙ c .before .before .before .a .given .1) in
+    let n = ap (λ (x : Known). x .rows) (k .known) in
+    let f = rows-few _ _ (k .is) in
+    omega (arith, n, f)
 
--- src/lib.rt:48:47
 add-copy-words : tie.Need-add-copy-words
-add-copy-words c = ?
+add-copy-words c =
+    let k = survey-accepted _ _ (sym (c .before .before .before .before .before .before .examine .ensures .answer) ∙ c .before .before .before .a .given .1) in
+    let n = ap (λ (x : Known). x .rows) (k .known) in
+    let f = rows-few _ _ (k .is) in
+    omega (arith, n, f)
 
--- src/lib.rt:48:13
 copy-words-requires : tie.Need-copy-words-requires
-copy-words-requires c κs = ?
+copy-words-requires c κs =
+    let k = survey-accepted _ _ (sym (c .before .before .before .before .before .before .examine .ensures .answer) ∙ c .before .before .before .a .given .1) in
+    let n = ap (λ (x : Known). x .rows) (k .known) in
+    let f = rows-few _ _ (k .is) in
+    (omega (arith, n, f, c .before .before .before .before .before .before .examine .kept .1 .0), omega (arith, n, f))
 
--- src/lib.rt:34:1
 same-length : tie.Need-same-length
-same-length c = search needs
+same-length c = simp length-set
 
--- src/lib.rt:34:1
 returns-2 : tie.Need-returns-2
-returns-2 c = ?
+returns-2 c = scan-refused _ _ _ (c .before .before .before .before .before .before .if1 .left) (survey-refused _ _ (sym (c .before .before .before .before .examine .ensures .answer) ∙ c .before .r .given .1))
 
--- src/lib.rt:34:1
 same-length-2 : tie.Need-same-length-2
 same-length-2 c = search needs
 
--- src/lib.rt:34:1
 returns-3 : tie.Need-returns-3
-returns-3 c = ?
+returns-3 c =
+    let k = survey-accepted _ _ (sym (c .before .before .before .before .before .before .before .before .before .examine .ensures .answer) ∙ c .before .before .before .before .before .before .a .given .1) in
+    scan-accepted _ _ (k .scan) _ _ _ _ (c .before .before .before .before .before .before .before .before .before .before .before .if1 .left) (k .is) (c .before .before .before .before .before .before .before .before .before .examine .ensures .words (k .scan) (k .is))
+    (ap (λ (x : Known). 1 + 4 * x .rows) (k .known)) (c .before .before .copy-words .ensures)
 
 pub scan-into-spec : {M : Type 1} → statement M
 scan-into-spec =

@@ -38,10 +38,11 @@ loop-less : tie.Need-loop-less Inv-loop μ-loop
 loop-less c = omega arith
 
 loop-again : tie.Need-loop-again Inv-loop μ-loop
-loop-again c =
-    (omega arith,
-      ap (λ (l : List ℕ). set l (c .before .before .loop .i) (getD (c .before .before .before .args .from .now) (c .before .before .loop .i) 0)) (c .before .before .loop .inv .1)
-      ∙ copied-next (c .before .before .loop .i) (c .before .before .before .args .from .now) (c .before .before .before .args .to .now) (omega arith) (omega arith))
+loop-again c = (
+  omega arith,
+  ap (λ (l : List ℕ). set l (c .before .before .loop .i) (getD (c .before .before .before .args .from .now) (c .before .before .loop .i) 0)) (c .before .before .loop .inv .1)
+      ∙ copied-next (c .before .before .loop .i) (c .before .before .before .args .from .now) (c .before .before .before .args .to .now) (omega arith) (omega arith),
+)
 
 same-length : tie.Need-same-length Inv-loop μ-loop
 same-length c = copied-length (c .before .loop .i) (c .before .before .args .from .now) (c .before .before .args .to .now) (omega arith) (omega arith) (c .before .loop .inv .1)

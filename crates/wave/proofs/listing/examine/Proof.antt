@@ -63,9 +63,9 @@ returns-3 c =
     let l = c .before .before .before .before .before .list .ensures in
     record {
       answer =
-        c .judge .ensures
-        ∙ ap₂ (λ (t : Tally) (n : ℕ). judgeOf (c .before .before .before .before .before .before .before .before .head .given .0 .0) t n (c .before .before .before .before .before .before .before .before .before .before .before .before .before .args .file .now)) (l .tally) (l .rows)
-        ∙ scan-judge _ _ h (sym (l .verdict) ∙ c .before .enum-told .given .1);
+          c .judge .ensures
+          ∙ ap₂ (λ (t : Tally) (n : ℕ). judgeOf (c .before .before .before .before .before .before .before .before .head .given .0 .0) t n (c .before .before .before .before .before .before .before .before .before .before .before .before .before .args .file .now)) (l .tally) (l .rows)
+          ∙ scan-judge _ _ h (sym (l .verdict) ∙ c .before .enum-told .given .1);
       words = λ a q. l .words ∙ ap (λ (rows : List Entry). tabled rows (c .before .before .before .before .before .before .before .before .before .before .before .before .before .args .words .now)) (sym (scan-rows _ _ a h q));
     }
 
