@@ -17,7 +17,7 @@ use Rattle.chunk.specs.declared.Refusal.the-variants.{BadBext, BadRecord, NoRoo
 use Rattle.chunk.specs.declared.Written.the-variants as written
 use Rattle.chunk.specs.Refusals.{Answer, given, refused, check}
 use Rattle.chunk.specs.Writes.{fitting, writtenOf, outputOf}
-use Rattle.chunk.proofs.Checks.{given-inj, check-given, check-true, every-cons, and-true}
+use Rattle.chunk.proofs.Checks.{given-inj, check-given, check-true, rule-and, and-true}
 use Rattle.bext.specs.Records.{Whole, allZero, textOf, textGood, dateGood, timeGood, restGood, setOf, rulesOf, wholeIn, bextIn}
 use Rattle.bext.specs.Writing.{textGiven, dateGiven, timeGiven, restGiven, writable, padded, laid, bextOut, Fitting, Writes}
 use Rattle.bext.proofs.Texts.{text-short, text-again, padded-text, padded-good, text-back}
@@ -208,6 +208,10 @@ record Rules (p : List ℕ) : Type 0 where
   time : (allZero (field 8 330 p) || timeGood (field 8 330 p)) ≡ true
   rest : restGood (number 2 346 p) (field 254 348 p) ≡ true
   history : textGood (drop 602 p) ≡ true
+
+every-cons : (b : Bool) (bs : List Bool) → every (b ∷ bs) ≡ true → (b ≡ true) × (every bs ≡ true)
+unfolding every
+every-cons b bs e = rule-and b (every bs) e
 
 rules : (p : List ℕ) → every (rulesOf p) ≡ true → Rules p
 unfolding rulesOf

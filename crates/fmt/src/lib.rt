@@ -179,7 +179,7 @@ fn fields_fit(format: Format) -> bool
 }
 
 // A record that could have been read, and whose bytes a second are rate times block.
-fn is_writable(format: Format) -> bool
+pub fn is_writable(format: Format) -> bool
     ensures { λ r. ⌜ r ≡ writable format ⌝ }
 {
     if !fields_fit(format) {
