@@ -227,21 +227,21 @@ fn put_opening(form: Form, size: u64, audio: u64, frames: u64, out: &mut [u8])
 {
     match form {
         Form::Riff => put_first(Form::RIFF, size, Name::JUNK, 0, 0, 0, out),
-        Form::Rf64 => put_first(
-            Form::RF64,
-            Name::ONES,
-            Name::DS64,
-            size,
-            audio,
-            frames,
-            out,
-        ),
+        Form::Rf64 => put_first(Form::RF64, Name::ONES, Name::DS64, size, audio, frames, out),
         Form::Bw64 => put_first(Form::BW64, Name::ONES, Name::DS64, size, audio, 0, out),
     }
 }
 
 // Stores a file of this form size.
-fn put_file(form: Form, size: u64, format: Format, bext: &[u8], chna: &[u8], audio: &[u8], out: &mut [u8])
+fn put_file(
+    form: Form,
+    size: u64,
+    format: Format,
+    bext: &[u8],
+    chna: &[u8],
+    audio: &[u8],
+    out: &mut [u8],
+)
     requires { ⌜ Ready format (now bext) (now chna) (now audio) (now out) × (size ≡ formSizeFor form format (now bext) (now chna) (now audio)) ⌝ }
     ensures { λ _. ⌜ now (out .exit) ≡ sets (now (out .entry)) 0 (fileBytes form format (now (bext .entry)) (now (chna .entry)) (now (audio .entry))) ⌝ }
 {
@@ -255,7 +255,14 @@ fn put_file(form: Form, size: u64, format: Format, bext: &[u8], chna: &[u8], aud
 
 // Writes a file at the start of out: 16 for an input that no file can be made of, 17 for one too large for its fields,
 // 15 where out is too short. A refusal changes no byte.
-pub fn write(form: Form, format: Format, bext: &[u8], chna: &[u8], audio: &[u8], out: &mut [u8]) -> Written
+pub fn write(
+    form: Form,
+    format: Format,
+    bext: &[u8],
+    chna: &[u8],
+    audio: &[u8],
+    out: &mut [u8],
+) -> Written
     ensures { λ r. ⌜ Writes form format (now (bext .entry)) (now (chna .entry)) (now (audio .entry)) (now (out .entry)) (now (out .exit)) r ⌝ }
 {
     if !input_good(format, bext, chna, audio) {

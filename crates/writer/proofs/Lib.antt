@@ -1,0 +1,4 @@
+pub mod Stores
+pub mod Sizes
+pub mod Inputs
+pub mod Outs
