@@ -2,3 +2,6 @@ pub mod Stores
 pub mod Sizes
 pub mod Inputs
 pub mod Outs
+pub mod Places
+pub mod Tables
+pub mod Openings

@@ -15,12 +15,13 @@ use Rattle.chunk.specs.Names.{WAVE, BEXT, CHNA, DATA, FMT}
 use Rattle.chunk.proofs.Checks.{picked, pick-true, pick-false}
 use Rattle.form.specs.declared.Form.{Form}
 use Rattle.form.specs.declared.Form.the-variants.{Riff, Rf64, Bw64}
+use Rattle.form.specs.Forms.{nameOf}
 use Rattle.fmt.specs.declared.Format.{Format}
 use Rattle.fmt.specs.Writing.{writable, formatBytes}
 use Rattle.fmt.proofs.Payloads.{payload-length, writable-true}
 use Rattle.chna.specs.Records.{padsOff, padsZeroed}
 use Rattle.chna.proofs.Pads.{pads-length}
-use Rattle.writer.specs.Files.{padOf, chunkWith, chunkBytes, optional, formName, ownField, firstChunk, openingBytes, bodyBytes, formSizeFor, fileBytes}
+use Rattle.writer.specs.Files.{padOf, chunkWith, chunkBytes, optional, ownField, firstChunk, openingBytes, bodyBytes, formSizeFor, fileBytes}
 use Rattle.writer.specs.Parts.{chunkSize, optionalSize, fileSize}
 
 pub chunk-length : (name own : ℕ) (p : List ℕ) → length (chunkWith name own p) ≡ chunkSize (length p)
@@ -68,7 +69,7 @@ zeroed-length c =
     (arith, length-append (take 4 c) (padsOff (drop 4 c)), pads-length (length (drop 4 c) / 40) (drop 4 c) (omega arith), length-append (take 4 c) (drop 4 c), ap length (take-append-drop 4 c))
 
 pub opening-length : (form : Form) (size audio frames : ℕ) → length (openingBytes form size audio frames) ≡ 48
-unfolding openingBytes firstChunk chunkBytes chunkWith padOf bytes formName ownField
+unfolding openingBytes firstChunk chunkBytes chunkWith padOf bytes nameOf ownField
 opening-length Riff size audio frames = refl
 opening-length Rf64 size audio frames = refl
 opening-length Bw64 size audio frames = refl

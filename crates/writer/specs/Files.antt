@@ -12,10 +12,10 @@ use Rattle.chunk.specs.declared.Refusal.the-variants.{BadRecord, TooLarge}
 use Rattle.chunk.specs.declared.Written.{Written}
 use Rattle.chunk.specs.Refusals.{Answer, refused, given, check}
 use Rattle.chunk.specs.Writes.{fitting, writtenOf, outputOf}
-use Rattle.chunk.specs.Names.{RIFF, RF64, BW64, WAVE, DS64, JUNK, FMT, DATA, BEXT, CHNA, ONES}
+use Rattle.chunk.specs.Names.{WAVE, DS64, JUNK, FMT, DATA, BEXT, CHNA, ONES}
 use Rattle.form.specs.declared.Form.{Form}
 use Rattle.form.specs.declared.Form.the-variants.{Riff, Rf64, Bw64}
-use Rattle.form.specs.Forms.{isWide}
+use Rattle.form.specs.Forms.{nameOf, isWide}
 use Rattle.fmt.specs.declared.Format.{Format}
 use Rattle.fmt.specs.Writing.{writable, formatBytes}
 use Rattle.bext.specs.Records.{bextIn}
@@ -49,11 +49,6 @@ firstChunk Riff size audio frames = chunkBytes JUNK (replicate 28 0)
 firstChunk Rf64 size audio frames = chunkBytes DS64 (bytes 8 size ++ (bytes 8 audio ++ (bytes 8 frames ++ bytes 4 0)))
 firstChunk Bw64 size audio frames = chunkBytes DS64 (bytes 8 size ++ (bytes 8 audio ++ (bytes 8 0 ++ bytes 4 0)))
 
-unfoldable pub formName : Form → ℕ
-formName Riff = RIFF
-formName Rf64 = RF64
-formName Bw64 = BW64
-
 -- "In 64-bit forms the form and data fields are all ones"
 unfoldable pub ownField : Form → ℕ → ℕ
 ownField Riff size = size
@@ -63,7 +58,7 @@ ownField Bw64 size = ONES
 -- the form's name, its field, WAVE, and the first chunk
 unfoldable pub openingBytes : Form → ℕ → ℕ → ℕ → List ℕ
 openingBytes form size audio frames =
-    bytes 4 (formName form)
+    bytes 4 (nameOf form)
     ++ (bytes 4 (ownField form size) ++ (bytes 4 WAVE ++ firstChunk form size audio frames))
 
 -- "then fmt, bext, chna, data"; "the file writer zeroes it too", the pad of chna's entries

@@ -4,7 +4,8 @@ use mathlib.Core.Path.{_≡_, refl, sym, ap, ap₂, _∙_}
 use lib.Seq.{sets}
 use Rattle.le.specs.Number.{bytes}
 use Rattle.form.specs.declared.Form.{Form}
-use Rattle.writer.specs.Files.{openingBytes, firstChunk, formName, ownField}
+use Rattle.form.specs.Forms.{nameOf}
+use Rattle.writer.specs.Files.{openingBytes, firstChunk, ownField}
 use borrow.Author.Needs.{needs}
 use Rattle.writer.proofs.put_opening.Statement.{statement}
 use Rattle.writer.proofs.put_opening.Tie as tie
@@ -31,7 +32,7 @@ same-length : tie.Need-same-length
 same-length c = search needs
 
 returns : tie.Need-returns
-unfolding openingBytes firstChunk formName ownField bytes
+unfolding openingBytes firstChunk nameOf ownField bytes
 returns c =
     let a = c .before .before .before .before .before .before .before .args in
     c .before .before .put-first .ensures
@@ -41,7 +42,7 @@ same-length-2 : tie.Need-same-length-2
 same-length-2 c = search needs
 
 returns-2 : tie.Need-returns-2
-unfolding openingBytes firstChunk formName ownField bytes
+unfolding openingBytes firstChunk nameOf ownField bytes
 returns-2 c =
     let a = c .before .before .before .before .before .before .before .args in
     c .before .before .put-first2 .ensures
@@ -51,7 +52,7 @@ same-length-3 : tie.Need-same-length-3
 same-length-3 c = search needs
 
 returns-3 : tie.Need-returns-3
-unfolding openingBytes firstChunk formName ownField bytes
+unfolding openingBytes firstChunk nameOf ownField bytes
 returns-3 c =
     let a = c .before .before .before .before .before .before .before .args in
     c .before .before .put-first3 .ensures
