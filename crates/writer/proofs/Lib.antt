@@ -5,3 +5,4 @@ pub mod Outs
 pub mod Places
 pub mod Tables
 pub mod Openings
+pub mod Back
