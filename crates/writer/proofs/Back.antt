@@ -48,6 +48,7 @@ use Rattle.writer.proofs.Tables as tables
 -- ---- an input that is not refused
 
 pub record Fine (form : Form) (f : Format) (b c a : List ℕ) : Type 0 where
+  pub is-good : inputGood f b c a ≡ true
   pub input : Good f b c a
   pub bext-fits : length b ≤ 4294967294
   pub form-fits : form ≡ Riff → formSizeFor form f b c a ≤ 4294967294
@@ -65,7 +66,7 @@ out-fine form f b c a bs e =
     let c1 = check-given (inputGood f b c a) _ _ bs e in
     let c2 = check-given (sizesGood form (formSizeFor form f b c a) (length b)) _ _ bs (c1 .1) in
     let k = sizes-told form (formSizeFor form f b c a) (length b) (c2 .0) in
-    (record { input = good f b c a (c1 .0); bext-fits = k .0; form-fits = k .1 }, given-inj _ _ (c2 .1))
+    (record { is-good = c1 .0; input = good f b c a (c1 .0); bext-fits = k .0; form-fits = k .1 }, given-inj _ _ (c2 .1))
 
 -- ---- what a rule of sizes has to know of a written file
 
@@ -75,16 +76,16 @@ pub record Knows (form : Form) (n : ℕ) (rule : Rule) : Type 0 where
   pub audio : (at : ℕ) → rule at DATA (ownField form n) ≡ given n
 
 module _ (form : Form) (f : Format) (b c a : List ℕ) (w : Fine form f b c a) (small : length (fileBytes form f b c a) < 256 ^ 8) where
-  abbrev s : List ℕ
+  abbrev pub s : List ℕ
   s = fileBytes form f b c a
 
-  abbrev chna-at : ℕ
+  abbrev pub chna-at : ℕ
   chna-at = 72 + optionalSize (length b)
 
-  abbrev data-at : ℕ
+  abbrev pub data-at : ℕ
   data-at = 72 + optionalSize (length b) + optionalSize (length c)
 
-  abbrev table : List Entry
+  abbrev pub table : List Entry
   table = tableFor form (length b) (length c) (length a)
 
   sixteen : length (formatBytes f) ≡ 16
@@ -191,7 +192,7 @@ module _ (form : Form) (f : Format) (b c a : List ℕ) (w : Fine form f b c a) (
         audio = λ at. sized-data form s (entriesOf head s) (length a) at audio-fits (λ wide. numbers-are wide .audio-is);
       }
 
-  facts-are : tables.Facts table (80 + optionalSize (length b) + optionalSize (length c)) (length a)
+  pub facts-are : tables.Facts table (80 + optionalSize (length b) + optionalSize (length c)) (length a)
   facts-are = tables.facts form (length b) (length c) (length a)
 
   pub fmt-payload : payload (find FMT table) s ≡ formatBytes f

@@ -6,3 +6,5 @@ pub mod Places
 pub mod Tables
 pub mod Openings
 pub mod Back
+pub mod Upgrades
+pub mod WayBack
