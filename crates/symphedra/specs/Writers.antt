@@ -10,6 +10,9 @@ use Rattle.chunk.specs.declared.Written.the-variants as written
 use Rattle.chunk.specs.Refusals.{Answer, numberOf, given, check, andThen}
 use Rattle.chunk.specs.Writes.{fitting, writtenOf, outputOf}
 use Rattle.fmt.specs.declared.Format.{Format}
+use Rattle.form.specs.declared.Form.{Form}
+use Rattle.form.specs.declared.Form.the-variants as form
+use Rattle.writer.specs.Files.{fileOut}
 
 -- "written: 1 word .. where there is no such word the call gives 15, in 15's place after 16 and 17"
 unfoldable pub counted : List ℕ → List ℕ → Answer (List ℕ) → Answer (List ℕ)
@@ -57,3 +60,16 @@ formatOf w =
 unfoldable pub ofNine : List ℕ → (Format → Answer (List ℕ)) → Answer (List ℕ)
 unfolding check
 ofNine w k = check (eqb (length w) 9) BadRecord (k (formatOf w))
+
+abbrev pub riff : Form
+riff = form.Riff
+
+abbrev pub rf64 : Form
+rf64 = form.Rf64
+
+abbrev pub bw64 : Form
+bw64 = form.Bw64
+
+-- "The file writer, one function a form": the file of a format record in these words, of payloads and of audio
+unfoldable pub fileOf : Form → List ℕ → List ℕ → List ℕ → List ℕ → Answer (List ℕ)
+fileOf f w b c a = ofNine w λ r. fileOut f r b c a
