@@ -66,16 +66,16 @@ pub fn list_rows(file: &[u8], head: Head, words: &mut [u64]) -> Verdict
     ensures { λ r. ⌜ Lists (trueSize head (entriesOf head (now (file .entry)))) (now (file .entry)) (now (words .entry)) r (now (words .exit)) ⌝ }
 {
     let mut at: u64 = 12;
-    let mut used: usize = 0;
+    let mut count: usize = 0;
     loop {
-        let found = form::truesize::step(file, head, at, (Table::LIMIT - used) as u64);
+        let found = form::truesize::step(file, head, at, (Table::LIMIT - count) as u64);
         let Step::Chunk(entry, next) = found else {
-            words[0] = used as u64;
+            words[0] = count as u64;
             return chunk::header::stop(found);
         };
-        chunk::put_row(words, used, entry);
+        chunk::put_row(words, count, entry);
         at = next;
-        used += 1;
+        count += 1;
     }
 }
 

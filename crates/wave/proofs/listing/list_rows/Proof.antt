@@ -12,10 +12,10 @@ use Rattle.wave.proofs.listing.list_rows.Statement.{statement}
 use Rattle.wave.proofs.listing.list_rows.Tie as tie
 
 abbrev Inv-loop : tie.InvT-loop
-Inv-loop file head words₀ at₀ used₀ words at used = Going (trueSize head (entriesOf head file)) file words₀ words at used
+Inv-loop file head words₀ at₀ count₀ words at count = Going (trueSize head (entriesOf head file)) file words₀ words at count
 
 abbrev μ-loop : tie.MeasureT-loop
-μ-loop file head words₀ at₀ used₀ words at used = 64 - used
+μ-loop file head words₀ at₀ count₀ words at count = 64 - count
 
 loop-holds : tie.Need-loop-holds Inv-loop μ-loop
 loop-holds c = going-start _ _ _ (c .before .before .pre .0)
@@ -53,8 +53,8 @@ put-row-requires c κs =
     let m = moves _ _ _ _ _ _ (sym (c .before .before .before .before .step .ensures) ∙ c .before .before .found .given .1) in
     omega (arith, m .less, c .before .before .before .before .before .loop .inv .same, c .before .before .before .before .before .before .before .before .pre .1)
 
-add-used : tie.Need-add-used Inv-loop μ-loop
-add-used c = omega (arith, c .before .before .before .before .before .before .before .before .loop .inv .few)
+add-count : tie.Need-add-count Inv-loop μ-loop
+add-count c = omega (arith, c .before .before .before .before .before .before .before .before .loop .inv .few)
 
 loop-less : tie.Need-loop-less Inv-loop μ-loop
 loop-less c =
@@ -82,6 +82,6 @@ list-rows-spec =
     same-length
     returns
     put-row-requires
-    add-used
+    add-count
     loop-less
     loop-again)
