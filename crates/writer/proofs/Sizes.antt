@@ -84,10 +84,7 @@ module _ (form : Form) (f : Format) (b c a : List ℕ) (can : writable f ≡ tru
 
   pub body-length : 48 + length (bodyBytes form f b c a) ≡ fileSize (length b) (length c) (length a)
   unfolding bodyBytes fileSize
-  body-length =
-      let data-chunk : List ℕ = chunkWith DATA (ownField form (length a)) a in
-      omega
-      (arith, fmt-length, length-append (chunkBytes FMT (formatBytes f)) (optional BEXT b ++ (optional CHNA (padsZeroed c) ++ data-chunk)), length-append (optional BEXT b) (optional CHNA (padsZeroed c) ++ data-chunk), length-append (optional CHNA (padsZeroed c)) data-chunk, optional-length BEXT b, optional-length CHNA (padsZeroed c), ap optionalSize (zeroed-length c), chunk-length DATA (ownField form (length a)) a)
+  body-length = simp (length-append, fmt-length, optional-length, zeroed-length, chunk-length) (omega arith)
 
   pub form-size : formSizeFor form f b c a ≡ fileSize (length b) (length c) (length a) - 8
   unfolding formSizeFor
