@@ -92,7 +92,7 @@ fn written(out: &[u8], w: Written) {
             text(b" bytes: ");
             let k = n as usize;
             if k <= out.len() {
-                scan(&out[..k]);
+                scan(&out[0..k]);
             }
         }
     }
@@ -188,40 +188,41 @@ fn short() {
     let w = writer::write(Form::Riff, stereo(), b"", b"", &[1, 0, 255, 255], &mut out);
     text(b"83 bytes of room:");
     written(&out, w);
-    bytes_of(&out[..4]);
+    bytes_of(&out[0..4]);
 }
 
-// A track sheet of one entry, whose pad is 7F.
-fn sheet() -> [u8; 44] {
-    *b"\x01\x00\x01\x00\x01\x00ATU_00000001AT_00010001_01AP_00010001\x7F"
-}
-
-// The pad of the sheet's entry, in a file with no bext.
-fn pad() {
+// The pad of a sheet's entry, in a file with no bext.
+fn pad(sheet: &[u8]) {
     let mut out = [0xEEu8; 800];
-    let c = sheet();
-    let w = writer::write(Form::Riff, stereo(), b"", &c, b"", &mut out);
+    let w = writer::write(Form::Riff, stereo(), b"", sheet, b"", &mut out);
     text(b"the sheet's pad:");
     written(&out, w);
     bytes_of(&out[112..124]);
 }
 
+// A sheet without its last byte.
+fn cut(sheet: &[u8], audio: &[u8]) {
+    if 43 <= sheet.len() {
+        each(b"chna of 43", stereo(), b"", &sheet[0..43], audio);
+    }
+}
+
+// One frame; a bext of zeros, in which nothing is set; a track sheet of one entry, whose pad is 7F.
 fn main() {
     let frame = [1u8, 0, 255, 255];
-    let mut bext = [0u8; 603];
-    let sheet = sheet();
+    let bext = [0u8; 603];
+    let sheet = b"\x01\x00\x01\x00\x01\x00ATU_00000001AT_00010001_01AP_00010001\x7F";
     whole();
     short();
     each(b"one frame", stereo(), b"", b"", &frame);
     each(b"no audio", stereo(), b"", b"", b"");
-    each(b"odd audio", mono(), b"", b"", &frame[..3]);
-    each(b"bext", stereo(), &bext[..602], b"", &frame);
-    each(b"chna", stereo(), b"", &sheet, &frame);
-    each(b"bext and chna", stereo(), &bext[..602], &sheet, &frame);
-    bext[602] = b'A';
-    each(b"odd bext, odd audio", mono(), &bext, b"", &frame[..3]);
-    pad();
-    each(b"ragged audio", stereo(), b"", b"", &frame[..3]);
-    each(b"bext of 601", stereo(), &bext[..601], b"", &frame);
-    each(b"chna of 43", stereo(), b"", &sheet[..43], &frame);
+    each(b"odd audio", mono(), b"", b"", &frame[0..3]);
+    each(b"bext", stereo(), &bext[0..602], b"", &frame);
+    each(b"chna", stereo(), b"", sheet, &frame);
+    each(b"bext and chna", stereo(), &bext[0..602], sheet, &frame);
+    each(b"odd bext, odd audio", mono(), &bext, b"", &frame[0..3]);
+    pad(sheet);
+    each(b"ragged audio", stereo(), b"", b"", &frame[0..3]);
+    each(b"bext of 601", stereo(), &bext[0..601], b"", &frame);
+    cut(sheet, &frame);
 }
