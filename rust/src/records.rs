@@ -1,0 +1,248 @@
+//! The fmt, bext and chna records: typed readers and writers.
+
+use crate::{ffi, Refusal};
+
+/// A format record.
+///
+/// ```
+/// use symphedra::{read_fmt, write_fmt, Fmt};
+///
+/// let stereo = Fmt::pcm(2, 48_000, 16)?;
+/// let mut payload = [0; 16];
+/// assert_eq!(write_fmt(&stereo, &mut payload)?, 16);
+/// assert_eq!(read_fmt(&payload)?, stereo);
+/// # Ok::<(), symphedra::Refusal>(())
+/// ```
+#[derive(Debug, Clone, Copy, PartialEq, Eq)]
+pub struct Fmt {
+    /// Payload size: 16, 18 or 40.
+    pub size: u16,
+    /// 1 for PCM, 0xFFFE for the 40-byte form.
+    pub tag: u16,
+    /// Channels.
+    pub channels: u16,
+    /// Frames a second.
+    pub rate: u32,
+    /// Bytes a second.
+    pub bytes_a_second: u32,
+    /// Bytes a frame.
+    pub block: u16,
+    /// Bits a sample.
+    pub bits: u16,
+    /// Bits in use; 0 unless the size is 40.
+    pub valid_bits: u16,
+    /// Which speaker has which channel; 0 unless the size is 40.
+    pub mask: u32,
+}
+
+impl Fmt {
+    /// The 16-byte record of PCM audio. [`Refusal::BadRecord`] where a product doesn't fit its field;
+    /// the writers judge the rest.
+    pub fn pcm(channels: u16, rate: u32, bits: u16) -> Result<Self, Refusal> {
+        let block = channels.checked_mul(bits / 8).ok_or(Refusal::BadRecord)?;
+        let bytes_a_second = rate.checked_mul(u32::from(block)).ok_or(Refusal::BadRecord)?;
+        Ok(Self {
+            size: 16,
+            tag: 1,
+            channels,
+            rate,
+            bytes_a_second,
+            block,
+            bits,
+            valid_bits: 0,
+            mask: 0,
+        })
+    }
+
+    pub(crate) fn words(&self) -> [u64; ffi::FMT_WORDS] {
+        [
+            self.size.into(),
+            self.tag.into(),
+            self.channels.into(),
+            self.rate.into(),
+            self.bytes_a_second.into(),
+            self.block.into(),
+            self.bits.into(),
+            self.valid_bits.into(),
+            self.mask.into(),
+        ]
+    }
+
+    /// Each word comes from a field of its width, so nothing is lost.
+    fn from_words(words: [u64; ffi::FMT_WORDS]) -> Self {
+        let [size, tag, channels, rate, bytes_a_second, block, bits, valid_bits, mask] = words;
+        Self {
+            size: size as u16,
+            tag: tag as u16,
+            channels: channels as u16,
+            rate: rate as u32,
+            bytes_a_second: bytes_a_second as u32,
+            block: block as u16,
+            bits: bits as u16,
+            valid_bits: valid_bits as u16,
+            mask: mask as u32,
+        }
+    }
+}
+
+/// Reads a fmt payload.
+pub fn read_fmt(payload: &[u8]) -> Result<Fmt, Refusal> {
+    let mut words = [0; ffi::FMT_WORDS];
+    Refusal::check(ffi::read_fmt(payload, &mut words))?;
+    Ok(Fmt::from_words(words))
+}
+
+/// Writes a fmt payload to the front of `out`; answers its size.
+pub fn write_fmt(fmt: &Fmt, out: &mut [u8]) -> Result<usize, Refusal> {
+    written(|word| ffi::write_fmt(&fmt.words(), out, word))
+}
+
+/// A bext record, over the payload it was read from.
+///
+/// ```
+/// use symphedra::{read_bext, write_bext, Bext};
+///
+/// let take = Bext { description: b"Evensong", date: Some(b"2024-02-29"), ..Bext::default() };
+/// let mut payload = [0; 602];
+/// assert_eq!(write_bext(&take, &mut payload)?, 602);
+/// let read = read_bext(&payload)?;
+/// assert_eq!(read.description, b"Evensong");
+/// assert_eq!(read.date, Some(b"2024-02-29"));
+/// assert_eq!(read.time, None);
+/// # Ok::<(), symphedra::Refusal>(())
+/// ```
+#[derive(Debug, Clone, Copy, PartialEq, Eq, Default)]
+pub struct Bext<'a> {
+    /// Description, at most 256 bytes.
+    pub description: &'a [u8],
+    /// Originator, at most 32 bytes.
+    pub originator: &'a [u8],
+    /// Originator's reference, at most 32 bytes.
+    pub reference: &'a [u8],
+    /// yyyy?mm?dd, or not set.
+    pub date: Option<&'a [u8; 10]>,
+    /// hh?mm?ss, or not set.
+    pub time: Option<&'a [u8; 8]>,
+    /// First sample, counted from midnight.
+    pub time_reference: u64,
+    /// Version of the record.
+    pub version: u16,
+    /// The 254 bytes after the version; empty means all zero.
+    pub rest: &'a [u8],
+    /// Coding history.
+    pub history: &'a [u8],
+}
+
+/// Reads a bext payload.
+pub fn read_bext(payload: &[u8]) -> Result<Bext<'_>, Refusal> {
+    let mut words = [0; ffi::BEXT_WORDS];
+    Refusal::check(ffi::read_bext(payload, &mut words))?;
+    let [description, originator, reference, date, time, time_reference, version, history] = words;
+    let text = |start: usize, len: u64| {
+        let rest = payload.get(start..).unwrap_or_default();
+        rest.get(..usize::try_from(len).unwrap_or(usize::MAX)).unwrap_or_default()
+    };
+    Ok(Bext {
+        description: text(0, description),
+        originator: text(256, originator),
+        reference: text(288, reference),
+        date: text(320, 10).try_into().ok().filter(|_| date == 1),
+        time: text(330, 8).try_into().ok().filter(|_| time == 1),
+        time_reference,
+        version: version as u16, // from a 16-bit field
+        rest: text(348, 254),
+        history: text(602, history),
+    })
+}
+
+/// Writes a bext payload to the front of `out`; answers its size.
+pub fn write_bext(bext: &Bext<'_>, out: &mut [u8]) -> Result<usize, Refusal> {
+    let fields = ffi::BextFields {
+        description: bext.description,
+        originator: bext.originator,
+        reference: bext.reference,
+        date: bext.date.map_or(&[], |date| date),
+        time: bext.time.map_or(&[], |time| time),
+        time_reference: bext.time_reference,
+        version: bext.version,
+        rest: bext.rest,
+        history: bext.history,
+    };
+    written(|word| ffi::write_bext(&fields, out, word))
+}
+
+/// A chna record, over the payload it was read from.
+#[derive(Debug, Clone, Copy, PartialEq, Eq, Default)]
+pub struct Chna<'a> {
+    /// Different track indices among the used entries.
+    pub tracks: u16,
+    /// Used entries.
+    pub uids: u16,
+    /// The entries, 40 bytes each as in the file.
+    pub entries: &'a [u8],
+}
+
+/// A used entry of a chna record.
+#[derive(Debug, Clone, Copy, PartialEq, Eq)]
+pub struct ChnaEntry<'a> {
+    /// Track index, from 1.
+    pub index: u16,
+    /// `ATU_` and 8 hex digits.
+    pub uid: &'a [u8],
+    /// Track or channel format reference.
+    pub track: &'a [u8],
+    /// Pack format reference, if there is one.
+    pub pack: Option<&'a [u8]>,
+}
+
+impl<'a> Chna<'a> {
+    /// The used entries, in order.
+    pub fn used(&self) -> impl Iterator<Item = ChnaEntry<'a>> {
+        self.entries.chunks_exact(40).filter_map(|entry| {
+            let (index, rest) = entry.split_first_chunk::<2>()?;
+            let pack = rest.get(26..37)?;
+            Some(ChnaEntry {
+                index: u16::from_le_bytes(*index),
+                uid: rest.get(..12)?,
+                track: rest.get(12..26)?,
+                pack: (pack != [0; 11]).then_some(pack),
+            })
+            .filter(|entry| entry.index != 0)
+        })
+    }
+}
+
+/// Reads a chna payload of a file of that many channels.
+///
+/// ```
+/// let mut payload = vec![1, 0, 1, 0, 2, 0];
+/// payload.extend(b"ATU_00000001AT_00010001_01AP_00010002\0");
+/// let chna = symphedra::read_chna(&payload, 2)?;
+/// assert_eq!((chna.tracks, chna.uids), (1, 1));
+/// assert_eq!(chna.used().next().unwrap().index, 2);
+/// assert_eq!(symphedra::read_chna(&payload, 1), Err(symphedra::Refusal::BadChna));
+/// # Ok::<(), symphedra::Refusal>(())
+/// ```
+pub fn read_chna(payload: &[u8], channels: u16) -> Result<Chna<'_>, Refusal> {
+    let mut words = [0; ffi::CHNA_WORDS];
+    Refusal::check(ffi::read_chna(payload, channels, &mut words))?;
+    let [tracks, uids, _] = words;
+    Ok(Chna {
+        tracks: tracks as u16, // from 16-bit fields
+        uids: uids as u16,
+        entries: payload.get(4..).unwrap_or_default(),
+    })
+}
+
+/// Writes a chna payload to the front of `out`; answers its size. The pads of used entries become zero.
+pub fn write_chna(chna: &Chna<'_>, channels: u16, out: &mut [u8]) -> Result<usize, Refusal> {
+    written(|word| ffi::write_chna(chna.tracks, chna.uids, chna.entries, channels, out, word))
+}
+
+/// Runs a writer with the word that takes its size.
+pub(crate) fn written(write: impl FnOnce(&mut [u64]) -> u32) -> Result<usize, Refusal> {
+    let mut word = [0];
+    Refusal::check(write(&mut word))?;
+    let [size] = word;
+    Ok(usize::try_from(size).unwrap_or(usize::MAX))
+}
