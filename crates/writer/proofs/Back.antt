@@ -1,26 +1,26 @@
 -- A written file read back: its rows are laid in it, each payload is found where the table says, and the scan accepts it.
 -- Assumes nothing.
-use mathlib.Core.Path.{_≡_, refl, sym, ap, ap₂, _∙_, subst}
-use mathlib.Core.Bool.{Bool, true, false, _||_, _&&_}
-use mathlib.Core.List.{List, [], _∷_, _++_, append-nil}
-use Prim.Native.Nat.{ℕ, _+_, _-_, _/_, _%_, _^_, _≤_, _<_}
+use mathlib.Core.Path.{_≡_, refl, sym, ap, ap₂, _∙_}
+use mathlib.Core.Bool.{true, _||_}
+use mathlib.Core.List.{List, [], _++_, append-nil}
+use Prim.Native.Nat.{ℕ, _+_, _/_, _%_, _^_, _≤_, _<_}
 use native.Mathlib.Nat.{div-le-self}
 use native.Mathlib.Omega.{arith}
 use lib.ListN.{length, drop}
 use lib.Dec.{eqb, leb, lit<}
 use borrow.Author.Tests.{eq-eqb, leb-true}
-use Rattle.le.specs.Number.{Bytes, field, number}
+use Rattle.le.specs.Number.{field}
 use Rattle.chunk.specs.declared.Entry.{Entry}
 use Rattle.chunk.specs.declared.Refusal.the-variants.{Ragged}
 use Rattle.chunk.specs.declared.Verdict.the-variants.{Accepted}
-use Rattle.chunk.specs.Refusals.{Answer, given, check}
-use Rattle.chunk.specs.Names.{FMT, DATA, BEXT, CHNA, FACT, DS64, ONES}
+use Rattle.chunk.specs.Refusals.{Answer, given}
+use Rattle.chunk.specs.Names.{FMT, DATA, BEXT, CHNA, DS64, ONES}
 use Rattle.chunk.specs.Tables.{count, find}
-use Rattle.chunk.specs.Walks.{Rule, Walked, ownSize}
+use Rattle.chunk.specs.Walks.{Rule, ownSize}
 use Rattle.chunk.proofs.Checks.{given-inj, check-given, check-true, andThen-at, and-true, or-false}
 use Rattle.chunk.proofs.Laid.{Laid, done, laid-walk, own-given}
 use Rattle.form.specs.declared.Form.{Form}
-use Rattle.form.specs.declared.Form.the-variants.{Riff, Rf64, Bw64}
+use Rattle.form.specs.declared.Form.the-variants.{Riff}
 use Rattle.form.specs.declared.Head.{Head}
 use Rattle.form.specs.Forms.{isWide}
 use Rattle.form.specs.Sizes.{trueSize, entriesOf}
@@ -34,15 +34,15 @@ use Rattle.fmt.proofs.RoundTrip.{reads-back}
 use Rattle.chna.specs.Records.{padsZeroed}
 use Rattle.wave.specs.declared.Samples.the-variants as samples
 use Rattle.wave.specs.Scans.{payload, wholeBlocks, judged, Scan, scan, samplesOf, walkFrom, walk32}
-use Rattle.wave.proofs.Scanned.{Listed, Scanned, scanned-scan}
+use Rattle.wave.proofs.Scanned.{scanned-scan}
 use Rattle.wave.proofs.Counts.{samples-none, samples-given}
 use Rattle.writer.specs.Files.{chunkWith, chunkBytes, optional, ownField, bodyBytes, formSizeFor, fileBytes, inputGood, sizesGood, fileOut}
 use Rattle.writer.specs.Parts.{chunkSize, optionalSize, fileSize}
-use Rattle.writer.specs.WayBack.{entry, firstName, rowFor, tableFor}
-use Rattle.writer.proofs.Inputs.{Good, good, Short, chna-short}
+use Rattle.writer.specs.WayBack.{entry, firstName, tableFor}
+use Rattle.writer.proofs.Inputs.{Good, good, chna-short}
 use Rattle.writer.proofs.Sizes.{format-length, form-size, file-length, zeroed-length}
 use Rattle.writer.proofs.Places.{Stands, stands, laid-next, laid-optional, optional-next, optional-stands}
-use Rattle.writer.proofs.Openings.{thirdOf, firstPayload, first-length, own-bound, Opening, opening, Numbers, numbers, headFor, opened, sized-first, sized-data}
+use Rattle.writer.proofs.Openings.{thirdOf, first-length, own-bound, Opening, opening, Numbers, numbers, headFor, opened, sized-first, sized-data}
 use Rattle.writer.proofs.Tables as tables
 
 -- ---- an input that is not refused

@@ -8,3 +8,4 @@ pub mod Openings
 pub mod Back
 pub mod Upgrades
 pub mod WayBack
+pub mod Cases

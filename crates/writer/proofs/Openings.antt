@@ -1,13 +1,13 @@
 -- The opening of a written file: its form, its form size and the first chunk read as they were written, so checks 1 to 5
 -- hold.
 -- Assumes nothing.
-use mathlib.Core.Path.{_≡_, refl, sym, ap, _∙_, subst}
-use mathlib.Core.Bool.{Bool, true, false}
-use mathlib.Core.List.{List, [], _∷_, _++_, append-assoc}
-use Prim.Native.Nat.{ℕ, _+_, _-_, _*_, _/_, _%_, _^_, _≤_, _<_}
+use mathlib.Core.Path.{_≡_, refl, ap, _∙_}
+use mathlib.Core.Bool.{true, false}
+use mathlib.Core.List.{List, _++_, append-assoc}
+use Prim.Native.Nat.{ℕ, _+_, _^_, _≤_, _<_}
 use native.Mathlib.Omega.{arith}
-use lib.ListN.{length, drop, replicate, length-append}
-use lib.Dec.{lit<, lit≤}
+use lib.ListN.{length, drop, replicate}
+use lib.Dec.{lit<}
 use Rattle.le.specs.Number.{bytes, number}
 use Rattle.le.proofs.Laws.{bytes-length}
 use Rattle.chunk.specs.Names.{WAVE, DS64, JUNK, DATA, ONES}
@@ -16,12 +16,12 @@ use Rattle.chunk.proofs.Checks.{true-false}
 use Rattle.form.specs.declared.Form.{Form}
 use Rattle.form.specs.declared.Form.the-variants.{Riff, Rf64, Bw64}
 use Rattle.form.specs.declared.Head.{Head}
-use Rattle.form.specs.Forms.{nameOf, isWide, ds64At, noDs64, headAs, formSize}
+use Rattle.form.specs.Forms.{nameOf, isWide, ds64At, noDs64, formSize}
 use Rattle.form.specs.Sizes.{Known, trueSize}
 use Rattle.form.proofs.Heads.{Opened, rules-ds64, head-wide, form-own, form-ones}
 use Rattle.form.proofs.Opens.{riff-finished}
 use Rattle.form.proofs.Sizes.{true-own, true-ds64, true-data}
-use Rattle.writer.specs.Files.{padOf, chunkWith, chunkBytes, firstChunk, ownField, openingBytes}
+use Rattle.writer.specs.Files.{chunkWith, chunkBytes, firstChunk, ownField, openingBytes}
 use Rattle.writer.specs.Parts.{chunkSize}
 use Rattle.writer.specs.WayBack.{firstName}
 use Rattle.writer.proofs.Sizes.{opening-length}

@@ -1,21 +1,21 @@
 -- The writer's answer and output, one law for each outcome.
 -- Assumes nothing.
-use mathlib.Core.Path.{_≡_, refl, sym, ap, ap₂, _∙_}
+use mathlib.Core.Path.{_≡_, refl, sym, ap, _∙_}
 use mathlib.Core.Bool.{Bool, true, false, _||_, _&&_}
-use mathlib.Core.List.{List, _++_}
-use Prim.Native.Nat.{ℕ, _+_, _-_, _/_, _≤_, _<_}
+use mathlib.Core.List.{List}
+use Prim.Native.Nat.{ℕ, _-_, _/_, _≤_, _<_}
 use native.Mathlib.Omega.{arith}
-use lib.ListN.{length, drop}
+use lib.ListN.{length}
 use lib.Seq.{sets}
-use lib.Dec.{eqb, leb}
+use lib.Dec.{leb}
 use borrow.Author.Tests.{le-leb, lt-leb}
 use Rattle.chunk.specs.declared.Refusal.{Refusal}
 use Rattle.chunk.specs.declared.Refusal.the-variants.{BadRecord, TooLarge, NoRoom}
 use Rattle.chunk.specs.declared.Written.the-variants as written
-use Rattle.chunk.specs.Refusals.{Answer, refused, given, check}
+use Rattle.chunk.specs.Refusals.{Answer, refused, given}
 use Rattle.chunk.specs.Names.{FMT, BEXT, CHNA, DATA}
 use Rattle.chunk.specs.Writes.{fitting, writtenOf, outputOf}
-use Rattle.chunk.proofs.Checks.{check-true, check-false, andThen-at}
+use Rattle.chunk.proofs.Checks.{check-true, check-false}
 use Rattle.form.specs.declared.Form.{Form}
 use Rattle.form.specs.Forms.{isWide}
 use Rattle.fmt.specs.declared.Format.{Format}

@@ -4,26 +4,24 @@
 use mathlib.Core.Path.{_≡_, refl, sym, ap, _∙_, subst}
 use mathlib.Core.Bool.{Bool, true, false}
 use mathlib.Core.List.{List, [], _∷_, _++_, append-assoc}
-use Prim.Native.Nat.{ℕ, _+_, _-_, _%_, _^_, _≤_, _<_}
+use Prim.Native.Nat.{ℕ, _+_, _%_, _^_, _≤_, _<_}
 use native.Mathlib.Nat.{add-zero}
 use native.Mathlib.Omega.{arith}
 use lib.ListN.{length, take, drop, length-append, length-drop}
 use lib.Seq.{drop-drop, take-at, drop-at}
-use lib.Dec.{eqb, lit<}
+use lib.Dec.{eqb}
 use borrow.Author.Tests.{eq-eqb, ne-eqb, eqb-true, eqb-false}
-use Rattle.le.specs.Choice.{pick}
 use Rattle.le.specs.Number.{bytes, value, field, number}
 use Rattle.le.proofs.Laws.{bytes-length, value-bytes}
 use Rattle.chunk.specs.declared.Entry.{Entry}
-use Rattle.chunk.specs.Names.{FMT, DATA, BEXT, CHNA, ONES}
 use Rattle.chunk.specs.Refusals.{given}
 use Rattle.chunk.specs.Walks.{Rule, past}
 use Rattle.chunk.proofs.Checks.{pick-true, pick-false}
-use Rattle.chunk.proofs.Laid.{Row, Laid, done, next}
+use Rattle.chunk.proofs.Laid.{Row, Laid, next}
 use Rattle.writer.specs.Files.{padOf, chunkWith, chunkBytes, optional}
 use Rattle.writer.specs.Parts.{chunkSize, optionalSize}
 use Rattle.writer.specs.WayBack.{entry, rowFor}
-use Rattle.writer.proofs.Sizes.{chunk-length, optional-none, optional-some, optional-length, size-none, size-some}
+use Rattle.writer.proofs.Sizes.{chunk-length, optional-some, optional-length, size-none, size-some}
 
 -- ---- what stands at a place
 

@@ -1,17 +1,16 @@
 -- The lengths of what is written: each chunk has the size that the code computes for it, and the file their sum.
 -- Assumes nothing.
-use mathlib.Core.Path.{_≡_, refl, sym, ap, ap₂, _∙_}
+use mathlib.Core.Path.{_≡_, refl, sym, ap, _∙_}
 use mathlib.Core.Bool.{Bool, true, false}
-use mathlib.Core.List.{List, [], _∷_, _++_}
+use mathlib.Core.List.{List, [], _++_}
 use Prim.Native.Nat.{ℕ, _+_, _-_, _/_, _%_, _≤_}
 use native.Mathlib.Omega.{arith}
-use lib.ListN.{length, take, drop, replicate, length-append, length-replicate, length-drop, take-append-drop}
+use lib.ListN.{length, take, drop, replicate, length-append, length-replicate, take-append-drop}
 use lib.Dec.{eqb}
 use borrow.Author.Tests.{eq-eqb, ne-eqb, eqb-true, eqb-false}
-use Rattle.le.specs.Choice.{pick}
 use Rattle.le.specs.Number.{bytes}
 use Rattle.le.proofs.Laws.{bytes-length}
-use Rattle.chunk.specs.Names.{WAVE, BEXT, CHNA, DATA, FMT}
+use Rattle.chunk.specs.Names.{FMT}
 use Rattle.chunk.proofs.Checks.{picked, pick-true, pick-false}
 use Rattle.form.specs.declared.Form.{Form}
 use Rattle.form.specs.declared.Form.the-variants.{Riff, Rf64, Bw64}
@@ -84,10 +83,7 @@ module _ (form : Form) (f : Format) (b c a : List ℕ) (can : writable f ≡ tru
 
   pub body-length : 48 + length (bodyBytes form f b c a) ≡ fileSize (length b) (length c) (length a)
   unfolding bodyBytes fileSize
-  body-length =
-      let data-chunk : List ℕ = chunkWith DATA (ownField form (length a)) a in
-      omega
-      (arith, fmt-length, length-append (chunkBytes FMT (formatBytes f)) (optional BEXT b ++ (optional CHNA (padsZeroed c) ++ data-chunk)), length-append (optional BEXT b) (optional CHNA (padsZeroed c) ++ data-chunk), length-append (optional CHNA (padsZeroed c)) data-chunk, optional-length BEXT b, optional-length CHNA (padsZeroed c), ap optionalSize (zeroed-length c), chunk-length DATA (ownField form (length a)) a)
+  body-length = simp (length-append, fmt-length, optional-length, zeroed-length, chunk-length) (omega arith)
 
   pub form-size : formSizeFor form f b c a ≡ fileSize (length b) (length c) (length a) - 8
   unfolding formSizeFor

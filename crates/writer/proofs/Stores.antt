@@ -3,19 +3,18 @@
 -- Assumes nothing.
 use mathlib.Core.Path.{_≡_, refl, sym, ap, ap₂, _∙_, subst}
 use mathlib.Core.Bool.{true}
-use mathlib.Core.List.{List, [], _∷_, _++_, append-assoc, append-nil}
-use Prim.Native.Nat.{ℕ, _+_, _-_, _%_, _≤_}
-use native.Mathlib.Nat.{zero-add}
+use mathlib.Core.List.{List, [], _++_, append-assoc, append-nil}
+use Prim.Native.Nat.{ℕ, _+_, _%_, _≤_}
 use native.Mathlib.Omega.{arith}
 use lib.ListN.{length, take, drop, set, replicate, length-append, drop-of-length-le}
 use lib.Dec.{leb}
 use borrow.Author.Tests.{le-leb}
 use lib.Seq.{sets, sets-eq, length-sets, take-length, drop-drop}
 use Rattle.le.specs.Number.{bytes, stored}
-use Rattle.le.proofs.Laws.{bytes-length, stored-then, sets-append}
+use Rattle.le.proofs.Laws.{bytes-length, stored-then}
 use Rattle.chunk.specs.Names.{WAVE}
 use Rattle.chunk.specs.declared.Refusal.the-variants.{NoRoom}
-use Rattle.chunk.specs.Refusals.{Answer, given, check}
+use Rattle.chunk.specs.Refusals.{Answer, given}
 use Rattle.chunk.proofs.Checks.{check-true}
 use Rattle.chunk.specs.Writes.{fitting, outputOf}
 use Rattle.fmt.specs.declared.Format.{Format}

@@ -1,23 +1,22 @@
 -- The upgrade of a written RIFF file: its stores change the opening and data's size field alone, and so make of it what is
 -- written for the target from the same input.
 -- Assumes nothing.
-use mathlib.Core.Path.{_≡_, refl, sym, ap, ap₂, _∙_, subst}
+use mathlib.Core.Path.{_≡_, refl, sym, ap, ap₂, _∙_}
 use mathlib.Core.Bool.{Bool, true, false, not, _||_, _&&_}
 use mathlib.Core.List.{List, [], _∷_, _++_, append-assoc}
-use Prim.Native.Nat.{ℕ, zero, suc, _+_, _-_, _/_, _^_, _≤_, _<_}
+use Prim.Native.Nat.{ℕ, suc, _+_, _-_, _/_, _^_, _≤_, _<_}
 use native.Mathlib.Nat.{zero-add, suc-add, add-suc}
 use native.Mathlib.Omega.{arith}
 use lib.ListN.{length, set, length-append, length-set}
-use lib.Seq.{sets, length-sets, set-append-left}
+use lib.Seq.{sets, set-append-left}
 use lib.Dec.{eqb, leb}
-use borrow.Author.Tests.{eq-eqb, le-leb}
-use Rattle.le.specs.Choice.{pick}
+use borrow.Author.Tests.{le-leb}
 use Rattle.le.specs.Number.{bytes, number, stored}
 use Rattle.le.proofs.Laws.{bytes-length, stored-length, stored-split}
 use Rattle.chunk.specs.declared.Entry.{Entry}
-use Rattle.chunk.specs.Names.{FMT, DATA, BEXT, CHNA, FACT, DS64, JUNK, ONES}
+use Rattle.chunk.specs.Names.{FMT, DATA, BEXT, CHNA, DS64, ONES}
 use Rattle.chunk.specs.Refusals.{given}
-use Rattle.chunk.specs.Tables.{count, find}
+use Rattle.chunk.specs.Tables.{find}
 use Rattle.chunk.proofs.Checks.{check-true, pick-false}
 use Rattle.form.specs.declared.Form.{Form}
 use Rattle.form.specs.declared.Form.the-variants.{Riff, Rf64, Bw64}
@@ -36,7 +35,7 @@ use Rattle.writer.specs.Files.{padOf, chunkWith, chunkBytes, optional, f
 use Rattle.writer.specs.Parts.{optionalSize}
 use Rattle.writer.specs.WayBack.{entry, firstName, tableFor}
 use Rattle.writer.proofs.Sizes.{opening-length, fmt-length, optional-length, zeroed-length, form-size}
-use Rattle.writer.proofs.Openings.{headFor, thirdOf}
+use Rattle.writer.proofs.Openings.{thirdOf}
 use Rattle.writer.proofs.Back as back
 use Rattle.writer.proofs.Back.{Fine}
 

@@ -1,17 +1,15 @@
 -- The way back: every input that isn't refused gives a file that reads back as it was given, and so does what the writer
 -- leaves in its output.
 -- Assumes nothing.
-use mathlib.Core.Path.{_≡_, refl, sym, ap, ap₂, _∙_, subst}
+use mathlib.Core.Path.{_≡_, refl, sym, ap, _∙_, subst}
 use mathlib.Core.List.{List}
-use mathlib.Core.Bool.{true}
-use Prim.Native.Nat.{ℕ, _+_, _/_, _%_, _^_, _≤_, _<_}
+use Prim.Native.Nat.{ℕ, _/_, _^_, _<_}
 use native.Mathlib.Omega.{arith}
 use lib.ListN.{length, take, length-take}
 use Rattle.le.specs.Number.{Bytes, number}
 use Rattle.chunk.specs.declared.Refusal.{Refusal}
 use Rattle.chunk.specs.declared.Written.the-variants as written
 use Rattle.chunk.specs.Refusals.{given}
-use Rattle.chunk.specs.Names.{CHNA}
 use Rattle.form.specs.declared.Form.{Form}
 use Rattle.form.specs.declared.Form.the-variants.{Riff, Rf64, Bw64}
 use Rattle.form.specs.Forms.{isWide}
@@ -25,7 +23,7 @@ use Rattle.upgrade.specs.declared.Target.{Target}
 use Rattle.upgrade.specs.Upgrades.{upgraded}
 use Rattle.upgrade.specs.Demand3.{targetForm}
 use Rattle.writer.specs.Files.{fileBytes, fileOut, Writes}
-use Rattle.writer.specs.Parts.{chunkSize, optionalSize, fileSize}
+use Rattle.writer.specs.Parts.{chunkSize, fileSize}
 use Rattle.writer.specs.WayBack.{WayBack}
 use Rattle.writer.proofs.Inputs.{accepted-given}
 use Rattle.writer.proofs.Tables.{bext-absent, chna-absent}

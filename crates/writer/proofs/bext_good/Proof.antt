@@ -1,7 +1,7 @@
 -- `writer::bext_good` meets its contract: each exit is one outcome of the reader.
 -- Assumes nothing.
 use lib.ListN.{length}
-use mathlib.Core.Path.{_≡_, refl, sym, ap, ap₂, _∙_}
+use mathlib.Core.Path.{sym, _∙_}
 use Rattle.writer.proofs.Inputs.{absent-good, present-good, present-bad, bext-read, bext-refused}
 use borrow.Author.Needs.{needs}
 use Rattle.writer.proofs.bext_good.Statement.{statement}

@@ -1,6 +1,6 @@
 -- `writer::chunk_size` meets its contract: the sum fits.
 -- Assumes nothing.
-use mathlib.Core.Path.{_≡_, refl, sym, ap, ap₂, _∙_}
+use mathlib.Core.Path.{refl}
 use Rattle.writer.specs.Parts.{chunkSize}
 use borrow.Author.Needs.{needs}
 use Rattle.writer.proofs.chunk_size.Statement.{statement}

@@ -1,6 +1,5 @@
 -- `writer::file_size` meets its contract: the sum of its parts, which fits.
 -- Assumes nothing.
-use mathlib.Core.Path.{_≡_, refl, sym, ap, ap₂, _∙_}
 use native.Mathlib.Omega.{arith}
 use Rattle.writer.specs.Parts.{chunkSize, fileSize}
 use Rattle.writer.proofs.Sizes.{size-most}

@@ -1,6 +1,6 @@
 -- `writer::form_fits` meets its contract: in each arm the form is known.
 -- Assumes nothing.
-use mathlib.Core.Path.{_≡_, refl, sym, ap, ap₂, _∙_}
+use mathlib.Core.Path.{sym, ap}
 use mathlib.Core.Bool.{_||_}
 use lib.Dec.{leb}
 use Rattle.form.specs.declared.Form.{Form}

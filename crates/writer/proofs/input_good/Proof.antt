@@ -1,6 +1,6 @@
 -- `writer::input_good` meets its contract: each exit is a rule that fails, and the last is the last rule.
 -- Assumes nothing.
-use mathlib.Core.Path.{_≡_, refl, sym, ap, ap₂, _∙_}
+use mathlib.Core.Path.{sym, _∙_}
 use native.Mathlib.Omega.{arith}
 use borrow.Author.Tests.{not-true, not-false}
 use Rattle.writer.proofs.Inputs.{block-least-of, fails-fmt, fails-size, fails-bext, fails-chna, blocks-last}

@@ -1,6 +1,6 @@
 -- `writer::optional_size` meets its contract: by whether there is a payload.
 -- Assumes nothing.
-use mathlib.Core.Path.{_≡_, refl, sym, ap, ap₂, _∙_}
+use mathlib.Core.Path.{sym, _∙_}
 use Rattle.writer.proofs.Sizes.{size-none, size-some}
 use borrow.Author.Needs.{needs}
 use Rattle.writer.proofs.optional_size.Statement.{statement}

@@ -1,6 +1,6 @@
 -- `writer::own_field` meets its contract: in each arm the form is known.
 -- Assumes nothing.
-use mathlib.Core.Path.{_≡_, refl, sym, ap, ap₂, _∙_}
+use mathlib.Core.Path.{sym, ap}
 use Rattle.form.specs.declared.Form.{Form}
 use Rattle.writer.specs.Files.{ownField}
 use borrow.Author.Needs.{needs}

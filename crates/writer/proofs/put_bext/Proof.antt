@@ -1,6 +1,5 @@
 -- `writer::put_bext` meets its contract: nothing, or a chunk.
 -- Assumes nothing.
-use mathlib.Core.Path.{_≡_, refl, sym, ap, ap₂, _∙_}
 use native.Mathlib.Omega.{arith}
 use Rattle.chunk.specs.Names.{BEXT}
 use Rattle.writer.specs.Files.{chunkBytes}

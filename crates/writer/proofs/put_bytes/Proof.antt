@@ -1,10 +1,10 @@
 -- `writer::put_bytes` meets its contract: the part that was copied to is set.
 -- Assumes nothing.
-use mathlib.Core.Path.{_≡_, refl, sym, ap, ap₂, _∙_}
+use mathlib.Core.Path.{_∙_}
 use native.Mathlib.Omega.{arith}
 use Prim.Native.Nat.{ℕ, _+_, _-_}
-use mathlib.Core.List.{List, _++_}
-use lib.ListN.{length, take, drop, length-take, length-drop}
+use mathlib.Core.List.{List}
+use lib.ListN.{length, length-take}
 use Rattle.writer.proofs.Stores.{copied, part-put}
 use borrow.Author.Needs.{needs}
 use Rattle.writer.proofs.put_bytes.Statement.{statement}

@@ -1,9 +1,9 @@
 -- `writer::put_chna` meets its contract: nothing, or header, payload and pad.
 -- Assumes nothing.
-use mathlib.Core.Path.{_≡_, refl, sym, ap, ap₂, _∙_}
+use mathlib.Core.Path.{_≡_, refl, sym, ap, _∙_}
 use native.Mathlib.Omega.{arith}
 use mathlib.Core.List.{List}
-use Prim.Native.Nat.{ℕ, _+_, _-_}
+use Prim.Native.Nat.{ℕ, _+_}
 use lib.ListN.{length}
 use Rattle.chunk.specs.Names.{CHNA}
 use Rattle.chna.specs.Records.{padsZeroed}

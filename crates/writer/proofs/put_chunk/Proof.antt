@@ -1,6 +1,6 @@
 -- `writer::put_chunk` meets its contract: header, payload and pad are a chunk.
 -- Assumes nothing.
-use mathlib.Core.Path.{_≡_, refl, sym, ap, ap₂, _∙_}
+use mathlib.Core.Path.{refl}
 use native.Mathlib.Omega.{arith}
 use Rattle.writer.specs.Parts.{chunkSize}
 use Rattle.writer.proofs.Stores.{chunk-puts}

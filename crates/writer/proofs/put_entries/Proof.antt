@@ -1,10 +1,10 @@
 -- `writer::put_entries` meets its contract: the part that was copied to is set.
 -- Assumes nothing.
-use mathlib.Core.Path.{_≡_, refl, sym, ap, ap₂, _∙_}
+use mathlib.Core.Path.{_≡_, ap, _∙_}
 use native.Mathlib.Omega.{arith}
 use Prim.Native.Nat.{ℕ, _+_, _-_}
 use mathlib.Core.List.{List, _++_, append-nil}
-use lib.ListN.{length, take, drop, length-take, length-drop, drop-of-length-le}
+use lib.ListN.{length, length-take, drop-of-length-le}
 use Rattle.chna.specs.Records.{padsZeroed}
 use Rattle.writer.proofs.Stores.{part-put}
 use Rattle.writer.proofs.Sizes.{zeroed-length}

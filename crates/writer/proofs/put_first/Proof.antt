@@ -1,6 +1,6 @@
 -- `writer::put_first` meets its contract: nine stores, each where the one before it ends.
 -- Assumes nothing.
-use mathlib.Core.Path.{_≡_, refl, sym, ap, ap₂, _∙_}
+use mathlib.Core.Path.{ap, _∙_}
 use Rattle.le.specs.Number.{stored}
 use Rattle.chunk.specs.Names.{WAVE}
 use Rattle.writer.proofs.Stores.{first-put}

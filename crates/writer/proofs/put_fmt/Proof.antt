@@ -1,11 +1,8 @@
 -- `writer::put_fmt` meets its contract: the header, and the record behind it.
 -- Assumes nothing.
-use mathlib.Core.Path.{_≡_, refl, sym, ap, ap₂, _∙_}
+use mathlib.Core.Path.{_≡_, _∙_}
 use native.Mathlib.Omega.{arith}
-use Prim.Native.Nat.{ℕ, _+_, _-_}
-use mathlib.Core.List.{List, _++_}
-use lib.ListN.{length, take, drop, length-take, length-drop}
-use lib.Seq.{length-sets}
+use lib.ListN.{length, length-take, length-drop}
 use Rattle.chunk.specs.Names.{FMT}
 use Rattle.fmt.specs.Writing.{formatBytes}
 use Rattle.fmt.proofs.Payloads.{payload-length, writable-true}

@@ -1,6 +1,6 @@
 -- `writer::put_opening` meets its contract: in each arm the form is known.
 -- Assumes nothing.
-use mathlib.Core.Path.{_≡_, refl, sym, ap, ap₂, _∙_}
+use mathlib.Core.Path.{sym, ap, _∙_}
 use lib.Seq.{sets}
 use Rattle.le.specs.Number.{bytes}
 use Rattle.form.specs.declared.Form.{Form}

@@ -1,16 +1,14 @@
 -- `writer::write` meets its contract: each exit is one outcome of the definition.
 -- Assumes nothing.
-use mathlib.Core.Path.{_≡_, refl, sym, ap, ap₂, _∙_}
+use mathlib.Core.Path.{sym, ap, _∙_}
 use native.Mathlib.Omega.{arith}
-use Prim.Native.Nat.{ℕ, _+_, _-_}
-use mathlib.Core.Bool.{Bool, true, _||_}
-use lib.ListN.{length}
+use Prim.Native.Nat.{ℕ, _-_}
+use mathlib.Core.Bool.{_||_}
 use lib.Dec.{leb}
 use borrow.Author.Tests.{not-true, not-false}
 use Rattle.form.specs.Forms.{isWide}
-use Rattle.writer.specs.Files.{inputGood}
-use Rattle.writer.specs.Parts.{chunkSize, fileSize, Ready}
-use Rattle.writer.proofs.Inputs.{Good, good, Short, chna-short}
+use Rattle.writer.specs.Parts.{fileSize}
+use Rattle.writer.proofs.Inputs.{good, chna-short}
 use Rattle.writer.proofs.Sizes.{form-size}
 use Rattle.writer.proofs.Outs.{bad-record, large-bext, large-form, lacks-room, written-all}
 use borrow.Author.Needs.{needs}
