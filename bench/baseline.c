@@ -790,7 +790,7 @@ uint32_t symphedra_write_bext(const uint8_t *description, size_t description_len
     if (written_words)
         written[0] = 0;
     if (!text_good(description, description_len, 256) || !text_good(originator, originator_len, 32) ||
-        !text_good(reference, reference_len, 32) || !text_good(history, history_len, SIZE_MAX))
+        !text_good(reference, reference_len, 32) || text_length(history, history_len) < 0)
         return SYMPHEDRA_BAD_RECORD;
     if (date_len != 0 && (date_len != 10 || !date_good(date)))
         return SYMPHEDRA_BAD_RECORD;

@@ -146,10 +146,10 @@ uint32_t symphedra_write_fmt(const uint64_t *record, size_t record_words,
                              uint64_t *written, size_t written_words);
 
 /*
- * A bext payload of 602 bytes and the history. Texts are given without their zeros: at most 256, 32
- * and 32 bytes, the history of any length, no zero byte in any. date is 10 bytes, or 0 for not set;
- * time 8 or 0. rest is the 254 bytes after Version, or 0 bytes for all zero; with version 0 they
- * must be zero.
+ * A bext payload of 602 bytes and the history. The three texts are given without their zeros: at most
+ * 256, 32 and 32 bytes, no zero byte in any. The history is of any length and may end in zeros, which
+ * are kept; no other byte follows its first zero. date is 10 bytes, or 0 for not set; time 8 or 0. rest
+ * is the 254 bytes after Version, or 0 bytes for all zero; with version 0 they must be zero.
  */
 uint32_t symphedra_write_bext(const uint8_t *description, size_t description_len,
                               const uint8_t *originator, size_t originator_len,

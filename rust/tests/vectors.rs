@@ -410,7 +410,8 @@ fn bext_reads_back_as_written() {
     let bad = |bext: Bext<'_>| write_bext(&bext, &mut [0; 700]) == Err(Refusal::BadRecord);
     assert!(bad(Bext { description: &[b'd'; 257], ..bext }));
     assert!(bad(Bext { originator: b"a\0", ..bext }));
-    assert!(bad(Bext { history: b"\0", ..bext }));
+    assert!(bad(Bext { history: b"\0a", ..bext }));
+    assert_eq!(write_bext(&Bext { history: b"a\0", ..bext }, &mut out), Ok(604));
     assert!(bad(Bext { date: Some(b"2024-02-32"), ..bext }));
     assert!(bad(Bext { time: Some(b"24:00:60"), ..bext }));
     assert!(bad(Bext { version: 0, ..bext }));

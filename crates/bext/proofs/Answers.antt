@@ -12,19 +12,17 @@ use Rattle.le.specs.Number.{field, number}
 use Rattle.le.specs.Choice.{pick, every}
 use Rattle.chunk.specs.declared.Refusal.the-variants.{BadBext}
 use Rattle.chunk.specs.Refusals.{check, given, refused}
+use Rattle.chunk.proofs.Checks.{true-false}
 use Rattle.bext.specs.Records.{allZero, textOf, textGood, dateGood, timeGood, restGood, setOf, partOf, rulesOf, wholeIn, bextIn, readAs, numbersOf}
 use Rattle.bext.specs.declared.Part.{Part}
 use Rattle.bext.specs.declared.Part.the-variants as part
 use Rattle.bext.specs.declared.Reading.the-variants as reading
 
-true-false : true ≡ false → ⊥
-true-false e = let z : _≡_ {A = ℕ} 0 1 = cc in omega arith
-
 -- a list of rules fails where one does
 pub one-fails : (bs : List Bool) (k : ℕ) → getD bs k true ≡ false → every bs ≡ false
 unfolding every
 one-fails [] k e = e
-one-fails (true ∷ bs) zero e = absurd (true-false e)
+one-fails (true ∷ bs) zero e = absurd (true-false true refl e)
 one-fails (true ∷ bs) (suc k) e = one-fails bs k e
 one-fails (false ∷ bs) k e = refl
 

@@ -8,30 +8,20 @@ use native.Mathlib.Omega.{arith}
 use lib.ListN.{getD}
 use lib.Dec.{leb}
 use borrow.Author.Tests.{leb-true, ne-eqb}
+use Rattle.chunk.proofs.Checks.{and-true}
 use Rattle.bext.specs.Records.{isDigit, twoDigits, isSeparator}
 
 -- a digit as a number
 abbrev pub units : ℕ → ℕ
 units b = b - 0x30
 
-pub and-true-first : (a b : Bool) → (a && b) ≡ true → a ≡ true
-and-true-first true b e = refl
-and-true-first false b e = e
-
-pub and-true-second : (a b : Bool) → (a && b) ≡ true → b ≡ true
-and-true-second true b e = e
-and-true-second false b e = absurd (false-true e)
-  where
-    false-true : false ≡ true → ⊥
-    false-true e = let z : _≡_ {A = ℕ} 0 1 = cc in omega arith
-
 pub digit-low : (b : ℕ) → isDigit b ≡ true → 0x30 ≤ b
 unfolding isDigit
-digit-low b e = leb-true 0x30 b (and-true-first (leb 0x30 b) (leb b 0x39) e)
+digit-low b e = leb-true 0x30 b (and-true (leb 0x30 b) (leb b 0x39) e .0)
 
 pub digit-high : (b : ℕ) → isDigit b ≡ true → b ≤ 0x39
 unfolding isDigit
-digit-high b e = leb-true b 0x39 (and-true-second (leb 0x30 b) (leb b 0x39) e)
+digit-high b e = leb-true b 0x39 (and-true (leb 0x30 b) (leb b 0x39) e .1)
 
 module _ (s : List ℕ) (at low high : ℕ) where
   pub first-fails : isDigit (getD s at 0) ≡ false → twoDigits s at low high ≡ false

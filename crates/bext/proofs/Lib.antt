@@ -6,3 +6,4 @@ pub mod Stores
 pub mod Outs
 pub mod Stamps
 pub mod RoundTrip
+pub mod Cases

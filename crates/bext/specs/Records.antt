@@ -99,8 +99,8 @@ unfoldable pub setOf : List ℕ → List ℕ
 unfolding pick
 setOf d = pick (allZero d) [] d
 
--- "at least 602 bytes: Description 256, Originator 32, Reference 32, date 10, time 8, TimeReference low 4 and high 4,
--- Version 2, then 254 bytes, then the coding history to the end"
+-- the rules of a payload: "at least 602 bytes: Description 256, Originator 32, Reference 32, date 10, time 8,
+-- TimeReference low 4 and high 4, Version 2, then 254 bytes, then the coding history to the end"
 unfoldable pub rulesOf : List ℕ → List Bool
 rulesOf p =
     leb 602 (length p)
@@ -113,6 +113,7 @@ rulesOf p =
     ∷ textGood (drop 602 p)
     ∷ []
 
+-- what a payload holds, judged by nothing
 unfoldable pub wholeIn : List ℕ → Whole
 wholeIn p =
     record {

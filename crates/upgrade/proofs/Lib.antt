@@ -1,4 +1,5 @@
 pub mod Cases
+pub mod ForTheCode
 pub mod Demand3
 pub mod Makes
 pub mod Outcomes

@@ -2,3 +2,4 @@ pub mod Upgrades
 pub mod Cases
 pub mod Demand3
 pub mod Words
+pub mod ForTheCode

@@ -152,8 +152,7 @@ fn convert(file: &mut [u8], target: Target, a: Known) -> Verdict
 pub fn upgrade(file: &mut [u8], target: Target) -> Verdict
     ensures { λ r. ⌜ UpgradeDone target (now (file .entry)) r (now (file .exit)) ⌝ }
 {
-    let mut rows = [0u64; Table::WORDS];
-    match wave::listing::examine(file, &mut rows) {
+    match wave::listing::examine(file) {
         Survey::Refused(r) => Verdict::Refused(r),
         Survey::Accepted(a) => convert(file, target, a),
     }

@@ -6,7 +6,6 @@ use mathlib.Core.List.{List, [], _∷_, _++_}
 use Prim.Native.Nat.{ℕ, zero, suc, _+_, _*_, _≤_, _<_}
 use native.Mathlib.Omega.{arith}
 use lib.ListN.{length, set, take, drop, replicate, length-append, length-drop}
-use lib.Seq.{take-at}
 use lib.Dec.{eqb, leb}
 use borrow.Author.Tests.{le-leb, lt-leb, leb-true}
 use Rattle.le.specs.Number.{number}
@@ -19,12 +18,15 @@ use Rattle.chunk.specs.declared.Verdict.the-variants.{Accepted, Refused}
 use Rattle.chunk.specs.Refusals.{Answer, refused, given, check, verdictOf}
 use Rattle.chunk.specs.Names.{FACT, ONES, WAVE}
 use Rattle.chunk.specs.Tables.{count, find, allWords, tabled, tableOf}
-use Rattle.chunk.specs.Walks.{Walked, past}
+use Rattle.chunk.specs.Walks.{Walked, walk, ownSize, past}
 use Rattle.chunk.proofs.Checks.{pick-true, pick-false, check-given, given-inj}
 use Rattle.chunk.proofs.Filled.{all-length}
-use Rattle.chunk.proofs.Laid.{laid-lies}
+use Rattle.chunk.proofs.Laid.{laid-walk, laid-lies}
 use Rattle.chunk.proofs.Finds.{found}
-use Rattle.form.specs.Forms.{wholeForm, openFor32}
+use Rattle.form.specs.declared.Head.{Head}
+use Rattle.form.specs.Forms.{headOf, wholeForm, openFor32}
+use Rattle.form.specs.Sizes.{trueSize, entriesOf}
+use Rattle.form.proofs.Heads.{opened-head}
 use Rattle.wave.specs.declared.Tabled.{Tabled}
 use Rattle.wave.specs.declared.tally.Met.{Met}
 use Rattle.wave.specs.declared.tally.Met.the-variants.{Never, Once, More}
@@ -32,7 +34,7 @@ use Rattle.wave.specs.declared.listing.Known.{Known}
 use Rattle.wave.specs.declared.listing.Survey.the-variants as survey
 use Rattle.wave.specs.Scans.{Scan, scan, rowsOf, walkFrom, walk32}
 use Rattle.wave.specs.Tallies.{metAs, metIn, tallyOf}
-use Rattle.wave.specs.Words.{knownOf, scanTable, ScanDone, walkTable, WalkDone, List32, surveyOf}
+use Rattle.wave.specs.Words.{knownOf, scanTable, ScanDone, walkTable, WalkDone, Lists, surveyOf}
 use Rattle.wave.proofs.Scanned.{scan-scanned}
 
 -- ---- what a survey tells
@@ -52,28 +54,15 @@ unfolding surveyOf
 survey-accepted (refused q) k e = absurd (let z : _≡_ {A = ℕ} 0 1 = cc in omega arith)
 survey-accepted (given a) k e = record { scan = a; is = refl; known = cc }
 
-pub rows-few : (s : List ℕ) (a : Scan) → scan s ≡ given a → length (a .rows) ≤ 64
-rows-few s a e = scan-scanned s a e .listed .few
+pub known-head : (s : List ℕ) (h : Head) (a : Scan) → scan s ≡ given a → h ≡ a .head → headOf s ≡ given h
+known-head s h a e p = opened-head s (a .head) (scan-scanned s a e .listed .opened) ∙ ap given (sym p)
 
 -- ---- the table
-
-pub tabled-length : (rows : List Entry) (w : List ℕ) → 1 + 4 * length rows ≤ length w → length (tabled rows w) ≡ length w
-unfolding tabled
-tabled-length rows w h = simp (length-append, length-drop) (omega (arith, all-length rows))
 
 set-first : (w : List ℕ) → 1 ≤ length w → set w 0 0 ≡ tabled [] w
 unfolding tabled allWords
 set-first [] h = absurd (omega arith)
 set-first (x ∷ w) h = ap (λ (k : ℕ). 0 ∷ drop k (x ∷ w)) (let p : suc 0 ≡ 1 + 4 * 0 = omega arith in p)
-
--- the front of one table's words over other words is that table over them
-pub table-moved : (rows : List Entry) (z w : List ℕ) (n : ℕ) → n ≡ 1 + 4 * length rows
-    → take n (tabled rows z) ++ drop n w ≡ tabled rows w
-unfolding tabled
-table-moved rows z w n e =
-    ap (λ (k : ℕ). take k (tabled rows z) ++ drop k w) e
-    ∙ ap (λ (l : List ℕ). l ++ drop (1 + 4 * length rows) w)
-    (take-at (length rows ∷ allWords rows) (drop (1 + 4 * length rows) z) (1 + 4 * length rows) (omega (arith, all-length rows)))
 
 -- ---- the scan
 
@@ -92,15 +81,17 @@ module _ (s w : List ℕ) where
         words = set-first w (omega arith) ∙ sym (pick-true _ _ _ e ∙ ap (λ (x : Answer Scan). tabled (rowsOf x) w) q);
       }
 
-  pub scan-accepted : (a : Scan) (rows z v : List ℕ) (n : ℕ) → 257 ≤ length w → scan s ≡ given a → rows ≡ tabled (a .rows) z
-      → n ≡ 1 + 4 * length (a .rows) → v ≡ take n rows ++ drop n w → ScanDone s w Accepted v
+  pub scan-accepted : (h : Head) (a : Scan) (r : Verdict) (v : List ℕ) → 257 ≤ length w → scan s ≡ given a → h ≡ a .head
+      → Lists (trueSize h (entriesOf h s)) s w r v → ScanDone s w r v
   unfolding verdictOf rowsOf
-  scan-accepted a rows z v n h q r m c =
-      let e = le-leb 257 (length w) h in
+  scan-accepted h a r v l q p d =
+      let e = le-leb 257 (length w) l in
+      let b = scan-scanned s a q .listed in
+      let k = ap (λ (x : Head). walk (trueSize x (entriesOf x s)) s 64 12) p ∙ laid-walk 64 (b .laid) (b .few) in
       record {
-        verdict = sym (pick-true _ _ _ e ∙ ap verdictOf q);
+        verdict = d .verdict ∙ ap (λ (x : Walked). x .end) k ∙ sym (pick-true _ _ _ e ∙ ap verdictOf q);
         words =
-            c ∙ ap (λ (l : List ℕ). take n l ++ drop n w) r ∙ table-moved (a .rows) z w n m
+            d .words ∙ ap (λ (x : Walked). tabled (x .rows) w) k
             ∙ sym (pick-true _ _ _ e ∙ ap (λ (x : Answer Scan). tabled (rowsOf x) w) q);
       }
 
@@ -150,7 +141,7 @@ module _ (s w : List ℕ) where
         words = set-first w (omega arith) ∙ sym (pick-true _ _ _ e ∙ ap (λ (x : Answer ℕ). tabled (walkFrom x s .rows) w) q);
       }
 
-  pub walk-done : (r : Verdict) (v : List ℕ) → 257 ≤ length w → openFor32 s ≡ given 12 → List32 s w r v → WalkDone s w r v
+  pub walk-done : (r : Verdict) (v : List ℕ) → 257 ≤ length w → openFor32 s ≡ given 12 → Lists ownSize s w r v → WalkDone s w r v
   unfolding walk32 walkFrom
   walk-done r v h q d =
       let e = le-leb 257 (length w) h in

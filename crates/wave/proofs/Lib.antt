@@ -1,4 +1,3 @@
-pub mod Copies
 pub mod Counts
 pub mod Ends
 pub mod FirstHalf

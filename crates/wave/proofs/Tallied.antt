@@ -6,7 +6,7 @@ use mathlib.Core.List.{List, [], _∷_}
 use Prim.Native.Nat.{ℕ, zero, suc, _≤_, _<_}
 use native.Mathlib.Omega.{arith}
 use lib.Dec.{eqb, leb, ltb}
-use borrow.Author.Tests.{ne-eqb, lt-leb, lt-ltb, le-ltb}
+use borrow.Author.Tests.{eq-eqb, ne-eqb, lt-leb, lt-ltb, le-ltb}
 use Rattle.le.specs.Choice.{pick, every}
 use Rattle.chunk.specs.declared.Entry.{Entry}
 use Rattle.chunk.specs.Names.{FMT, DATA, FACT, BEXT, CHNA}
@@ -167,3 +167,77 @@ module _ (t : Tally) where
       only : (k : Bool) → pick k true false ≡ k
       only true = refl
       only false = refl
+
+-- ---- one chunk more
+
+module _ (e : Entry) where
+  same : (name : ℕ) (k m : Met) → e .name ≡ name → m ≡ meet k e → m ≡ meeting name k e
+  unfolding meeting
+  same name k m p q = q ∙ sym (pick-true _ _ _ (eq-eqb (e .name) name p))
+
+  other : (name : ℕ) (k : Met) → (e .name ≡ name → ⊥) → k ≡ meeting name k e
+  unfolding meeting
+  other name k n = sym (pick-false _ _ _ (ne-eqb (e .name) name n))
+
+  -- a chunk of one of the names changes what was met of that name
+  module _ (t : Tally) (m : Met) where
+    pub note-fmt : e .name ≡ FMT → m ≡ meet (t .fmt) e → record { fmt = m; audio = t .audio; fact = t .fact; bext = t .bext; chna = t .chna } ≡ noted t e
+    unfolding noted
+    note-fmt p q = λ i. record {
+      fmt = same FMT (t .fmt) m p q i;
+      audio = other DATA (t .audio) (omega (arith, p)) i;
+      fact = other FACT (t .fact) (omega (arith, p)) i;
+      bext = other BEXT (t .bext) (omega (arith, p)) i;
+      chna = other CHNA (t .chna) (omega (arith, p)) i;
+    }
+
+    pub note-audio : e .name ≡ DATA → m ≡ meet (t .audio) e → record { fmt = t .fmt; audio = m; fact = t .fact; bext = t .bext; chna = t .chna } ≡ noted t e
+    unfolding noted
+    note-audio p q = λ i. record {
+      fmt = other FMT (t .fmt) (omega (arith, p)) i;
+      audio = same DATA (t .audio) m p q i;
+      fact = other FACT (t .fact) (omega (arith, p)) i;
+      bext = other BEXT (t .bext) (omega (arith, p)) i;
+      chna = other CHNA (t .chna) (omega (arith, p)) i;
+    }
+
+    pub note-fact : e .name ≡ FACT → m ≡ meet (t .fact) e → record { fmt = t .fmt; audio = t .audio; fact = m; bext = t .bext; chna = t .chna } ≡ noted t e
+    unfolding noted
+    note-fact p q = λ i. record {
+      fmt = other FMT (t .fmt) (omega (arith, p)) i;
+      audio = other DATA (t .audio) (omega (arith, p)) i;
+      fact = same FACT (t .fact) m p q i;
+      bext = other BEXT (t .bext) (omega (arith, p)) i;
+      chna = other CHNA (t .chna) (omega (arith, p)) i;
+    }
+
+    pub note-bext : e .name ≡ BEXT → m ≡ meet (t .bext) e → record { fmt = t .fmt; audio = t .audio; fact = t .fact; bext = m; chna = t .chna } ≡ noted t e
+    unfolding noted
+    note-bext p q = λ i. record {
+      fmt = other FMT (t .fmt) (omega (arith, p)) i;
+      audio = other DATA (t .audio) (omega (arith, p)) i;
+      fact = other FACT (t .fact) (omega (arith, p)) i;
+      bext = same BEXT (t .bext) m p q i;
+      chna = other CHNA (t .chna) (omega (arith, p)) i;
+    }
+
+    pub note-chna : e .name ≡ CHNA → m ≡ meet (t .chna) e → record { fmt = t .fmt; audio = t .audio; fact = t .fact; bext = t .bext; chna = m } ≡ noted t e
+    unfolding noted
+    note-chna p q = λ i. record {
+      fmt = other FMT (t .fmt) (omega (arith, p)) i;
+      audio = other DATA (t .audio) (omega (arith, p)) i;
+      fact = other FACT (t .fact) (omega (arith, p)) i;
+      bext = other BEXT (t .bext) (omega (arith, p)) i;
+      chna = same CHNA (t .chna) m p q i;
+    }
+
+  pub note-none : (t : Tally) → (e .name ≡ FMT → ⊥) → (e .name ≡ DATA → ⊥) → (e .name ≡ FACT → ⊥) → (e .name ≡ BEXT → ⊥)
+      → (e .name ≡ CHNA → ⊥) → t ≡ noted t e
+  unfolding noted
+  note-none t a b c d f = λ i. record {
+    fmt = other FMT (t .fmt) a i;
+    audio = other DATA (t .audio) b i;
+    fact = other FACT (t .fact) c i;
+    bext = other BEXT (t .bext) d i;
+    chna = other CHNA (t .chna) f i;
+  }

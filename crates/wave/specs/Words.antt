@@ -12,7 +12,7 @@ use Rattle.chunk.specs.declared.Verdict.{Verdict}
 use Rattle.chunk.specs.declared.Verdict.the-variants as verdict
 use Rattle.chunk.specs.Refusals.{Answer, refused, given, verdictOf}
 use Rattle.chunk.specs.Tables.{tabled, tableOf}
-use Rattle.chunk.specs.Walks.{walk, ownSize}
+use Rattle.chunk.specs.Walks.{Rule, walk}
 use Rattle.form.specs.declared.Head.{Head}
 use Rattle.fmt.specs.declared.Format.{Format}
 use Rattle.wave.specs.declared.Tabled.{Tabled}
@@ -49,17 +49,16 @@ pub record WalkDone (s w : List ℕ) (r : Verdict) (w' : List ℕ) : Type 0 wher
 
 -- ---- the parts that the code makes them of
 
--- the 32-bit walk from byte 12
-pub record List32 (s w : List ℕ) (r : Verdict) (w' : List ℕ) : Type 0 where
-  pub verdict : r ≡ walk ownSize s 64 12 .end
-  pub words : w' ≡ tabled (walk ownSize s 64 12 .rows) w
+-- a walk from byte 12 into words
+pub record Lists (rule : Rule) (s w : List ℕ) (r : Verdict) (w' : List ℕ) : Type 0 where
+  pub verdict : r ≡ walk rule s 64 12 .end
+  pub words : w' ≡ tabled (walk rule s 64 12 .rows) w
 
 -- the scan's walk from byte 12
-pub record ListedIs (h : Head) (s w : List ℕ) (l : Listed) (w' : List ℕ) : Type 0 where
+pub record ListedIs (h : Head) (s : List ℕ) (l : Listed) : Type 0 where
   pub verdict : l .verdict ≡ headers h s .end
   pub tally : l .tally ≡ tallyOf (headers h s .rows)
   pub rows : l .rows ≡ length (headers h s .rows)
-  pub words : w' ≡ tabled (headers h s .rows) w
 
 -- where check 10 holds, the fmt payload lies in the file
 pub record FmtFits (t : Tally) (s : List ℕ) : Type 0 where
@@ -83,11 +82,6 @@ knownOf a = record { head = a .head; tally = tallyOf (a .rows); format = a .form
 unfoldable pub surveyOf : Answer Scan → Survey
 surveyOf (refused r) = survey.Refused r
 surveyOf (given a) = survey.Accepted (knownOf a)
-
--- the scan: its answer and, of an accepted file, its table. Of a refused one the words are any
-pub record SurveyIs (s w : List ℕ) (r : Survey) (w' : List ℕ) : Type 0 where
-  pub answer : r ≡ surveyOf (scan s)
-  pub words : (a : Scan) → scan s ≡ given a → w' ≡ tabled (a .rows) w
 
 -- the sample count of a file with fact's payload at a place
 unfoldable pub countAt : Head → ℕ → List ℕ → Samples

@@ -38,16 +38,14 @@ pub fn scan_into(file: &[u8], words: &mut [u64]) -> Verdict
     if words.len() < Table::WORDS {
         return Verdict::Refused(Refusal::NoRoom);
     }
-    let mut rows = [0u64; Table::WORDS];
-    match listing::examine(file, &mut rows) {
+    match listing::examine(file) {
         Survey::Refused(r) => {
             words[0] = 0;
             Verdict::Refused(r)
         }
         Survey::Accepted(a) => {
-            let count = a.rows as usize;
-            listing::copy_words(&rows, words, 1 + 4 * count);
-            Verdict::Accepted
+            let head = a.head;
+            listing::list_rows(file, head, words)
         }
     }
 }
@@ -96,8 +94,7 @@ pub fn walk32(file: &[u8]) -> Tabled
 pub fn sample_count(file: &[u8]) -> Samples
     ensures { λ r. ⌜ r ≡ samplesOf (now (file .entry)) ⌝ }
 {
-    let mut rows = [0u64; Table::WORDS];
-    match listing::examine(file, &mut rows) {
+    match listing::examine(file) {
         Survey::Refused(r) => Samples::Refused(r),
         Survey::Accepted(a) => {
             let tally = a.tally;

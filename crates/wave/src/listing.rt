@@ -12,13 +12,13 @@ use form::Form;
 use form::Head;
 use form::Opened;
 ghost use mathlib.Core.Path.{_≡_};
-ghost use mathlib.Core.List.{_++_};
 ghost use Prim.Native.Nat.{_+_, _≤_};
-ghost use lib.ListN.{length, take, drop};
-ghost use Rattle.chunk.specs.Refusals.{verdictOf};
+ghost use lib.ListN.{length};
+ghost use Rattle.chunk.specs.Walks.{ownSize};
 ghost use Rattle.form.specs.Answers.{EntriesFit};
+ghost use Rattle.form.specs.Sizes.{trueSize, entriesOf};
 ghost use Rattle.wave.specs.Scans.{scan};
-ghost use Rattle.wave.specs.Words.{List32, ListedIs, FmtFits, judgeOf, SurveyIs, countAt};
+ghost use Rattle.wave.specs.Words.{Lists, ListedIs, FmtFits, judgeOf, surveyOf, countAt};
 
 // What the scan's walk comes to.
 pub struct Listed {
@@ -41,22 +41,10 @@ pub enum Survey {
     Refused(Refusal),
 }
 
-// Copies the first n words.
-pub fn copy_words(from: &[u64], to: &mut [u64], n: usize)
-    requires { ⌜ (n ≤ length (now from)) × (n ≤ length (now to)) ⌝ }
-    ensures { λ _. ⌜ now (to .exit) ≡ take n (now (from .entry)) ++ drop n (now (to .entry)) ⌝ }
-{
-    let mut i = 0;
-    while i < n {
-        to[i] = from[i];
-        i += 1;
-    }
-}
-
 // The 32-bit walk from byte 12, its chunks stored as rows.
 pub fn list32(file: &[u8], words: &mut [u64]) -> Verdict
     requires { ⌜ (12 ≤ length (now file)) × (257 ≤ length (now words)) ⌝ }
-    ensures { λ r. ⌜ List32 (now (file .entry)) (now (words .entry)) r (now (words .exit)) ⌝ }
+    ensures { λ r. ⌜ Lists ownSize (now (file .entry)) (now (words .entry)) r (now (words .exit)) ⌝ }
 {
     let mut at: u64 = 12;
     let mut used: usize = 0;
@@ -72,25 +60,42 @@ pub fn list32(file: &[u8], words: &mut [u64]) -> Verdict
     }
 }
 
-// The scan's walk from byte 12, its chunks stored as rows and noted.
-fn list(file: &[u8], head: Head, words: &mut [u64]) -> Listed
+// The scan's walk from byte 12, its chunks stored as rows.
+pub fn list_rows(file: &[u8], head: Head, words: &mut [u64]) -> Verdict
     requires { ⌜ (12 ≤ length (now file)) × (257 ≤ length (now words)) × EntriesFit head (now file) ⌝ }
-    ensures { λ r. ⌜ ListedIs head (now (file .entry)) (now (words .entry)) r (now (words .exit)) ⌝ }
+    ensures { λ r. ⌜ Lists (trueSize head (entriesOf head (now (file .entry)))) (now (file .entry)) (now (words .entry)) r (now (words .exit)) ⌝ }
 {
     let mut at: u64 = 12;
-    let mut used: usize = 0;
+    let mut count: usize = 0;
+    loop {
+        let found = form::truesize::step(file, head, at, (Table::LIMIT - count) as u64);
+        let Step::Chunk(entry, next) = found else {
+            words[0] = count as u64;
+            return chunk::header::stop(found);
+        };
+        chunk::put_row(words, count, entry);
+        at = next;
+        count += 1;
+    }
+}
+
+// The scan's walk from byte 12, its chunks noted. Nothing is stored, so that a refused file leaves no row behind.
+fn list(file: &[u8], head: Head) -> Listed
+    requires { ⌜ (12 ≤ length (now file)) × EntriesFit head (now file) ⌝ }
+    ensures { λ r. ⌜ ListedIs head (now (file .entry)) r ⌝ }
+{
+    let mut at: u64 = 12;
+    let mut used: u64 = 0;
     let mut tally = super::tally::none();
     loop {
-        let found = form::truesize::step(file, head, at, (Table::LIMIT - used) as u64);
+        let found = form::truesize::step(file, head, at, Table::LIMIT as u64 - used);
         let Step::Chunk(entry, next) = found else {
-            words[0] = used as u64;
             return Listed {
                 verdict: chunk::header::stop(found),
                 tally,
-                rows: used as u64,
+                rows: used,
             };
         };
-        chunk::put_row(words, used, entry);
         tally = super::tally::note(tally, entry);
         at = next;
         used += 1;
@@ -128,15 +133,14 @@ fn judge(file: &[u8], head: Head, l: Listed) -> Survey
     }
 }
 
-// The whole scan: what is known of an accepted file, whose table is then in the words; or the refusal.
-pub fn examine(file: &[u8], words: &mut [u64]) -> Survey
-    requires { ⌜ 257 ≤ length (now words) ⌝ }
-    ensures { λ r. ⌜ SurveyIs (now (file .entry)) (now (words .entry)) r (now (words .exit)) ⌝ }
+// The whole scan but for the table: what is known of an accepted file, or the refusal.
+pub fn examine(file: &[u8]) -> Survey
+    ensures { λ r. ⌜ r ≡ surveyOf (scan (now (file .entry))) ⌝ }
 {
     match form::opening::open(file) {
         Opened::Refused(r) => Survey::Refused(r),
         Opened::Head(head) => {
-            let l = list(file, head, words);
+            let l = list(file, head);
             let v = l.verdict;
             match v {
                 Verdict::Refused(r) => Survey::Refused(r),

@@ -3,7 +3,7 @@ use chunk::Entry;
 use chunk::Name;
 ghost use mathlib.Core.Path.{_≡_};
 ghost use mathlib.Core.List.{[]};
-ghost use Rattle.wave.specs.Tallies.{meeting, noted, tallyOf, metOnce, atMostOnce, factGood, placeOf, sizeOf, tallyGood};
+ghost use Rattle.wave.specs.Tallies.{meet, noted, tallyOf, metOnce, atMostOnce, factGood, placeOf, sizeOf, tallyGood};
 
 // How often a name was met: never, once with the payload's place and size, or more often.
 pub enum Met {
@@ -20,13 +20,10 @@ pub struct Tally {
     pub chna: Met,
 }
 
-// What was met of a name, after one chunk more.
-fn meets(m: Met, name: u64, e: Entry) -> Met
-    ensures { λ r. ⌜ r ≡ meeting name m e ⌝ }
+// What was met of a chunk's name, after that chunk.
+fn once_more(m: Met, e: Entry) -> Met
+    ensures { λ r. ⌜ r ≡ meet m e ⌝ }
 {
-    if e.name != name {
-        return m;
-    }
     match m {
         Met::Never => Met::Once(e.place, e.size),
         Met::Once(_, _) => Met::More,
@@ -47,22 +44,67 @@ pub fn none() -> Tally
     }
 }
 
-// A tally after one chunk more.
+// A tally after one chunk more. Most chunks have none of the five names.
 pub fn note(t: Tally, e: Entry) -> Tally
     ensures { λ r. ⌜ r ≡ noted t e ⌝ }
 {
+    let name = e.name;
     let fmt = t.fmt;
     let audio = t.audio;
     let fact = t.fact;
     let bext = t.bext;
     let chna = t.chna;
-    Tally {
-        fmt: meets(fmt, Name::FMT, e),
-        audio: meets(audio, Name::DATA, e),
-        fact: meets(fact, Name::FACT, e),
-        bext: meets(bext, Name::BEXT, e),
-        chna: meets(chna, Name::CHNA, e),
+    if name == Name::FMT {
+        let fmt = once_more(fmt, e);
+        return Tally {
+            fmt,
+            audio,
+            fact,
+            bext,
+            chna,
+        };
     }
+    if name == Name::DATA {
+        let audio = once_more(audio, e);
+        return Tally {
+            fmt,
+            audio,
+            fact,
+            bext,
+            chna,
+        };
+    }
+    if name == Name::FACT {
+        let fact = once_more(fact, e);
+        return Tally {
+            fmt,
+            audio,
+            fact,
+            bext,
+            chna,
+        };
+    }
+    if name == Name::BEXT {
+        let bext = once_more(bext, e);
+        return Tally {
+            fmt,
+            audio,
+            fact,
+            bext,
+            chna,
+        };
+    }
+    if name == Name::CHNA {
+        let chna = once_more(chna, e);
+        return Tally {
+            fmt,
+            audio,
+            fact,
+            bext,
+            chna,
+        };
+    }
+    t
 }
 
 // Whether a name was met exactly once.

@@ -492,7 +492,8 @@ pub fn write_bext(fields: &BextFields<'_>) -> Refused<Vec<u8>> {
         u64::from(!fields.time.is_empty()),
         fields.time_reference,
         u64::from(fields.version),
-        fields.history.len() as u64,
+        // the history may end in zeros, which are kept: its text is what stands before them
+        fields.history.iter().position(|&b| b == 0).unwrap_or(fields.history.len()) as u64,
     ];
     if read_bext(&payload) == Ok(given) {
         Ok(payload)

@@ -5,9 +5,12 @@ use mathlib.Core.Path.{_≡_, _∙_, sym, ap}
 use mathlib.Core.Bool.{_||_}
 use borrow.Author.Needs.{needs}
 use borrow.Author.Tests.{lt-leb, le-leb, not-true, not-false}
+use native.Mathlib.Nat.{le-trans}
 use native.Mathlib.Omega.{arith}
 use lib.ListN.{length, take, drop}
+use lib.Dec.{lit≤}
 use Rattle.le.specs.Number.{field, number}
+use Rattle.le.proofs.Laws.{field-length}
 use Rattle.bext.specs.Records.{textGood, textOf, allZero, dateGood, timeGood, setOf, restGood, rulesOf}
 use Rattle.bext.proofs.Texts.{to-the-end}
 use Rattle.bext.proofs.Answers.{Kept, part-good, part-broken, broken, accepted}
@@ -19,129 +22,131 @@ unfolding rulesOf
 returns c = broken _ 0 (lt-leb _ _ (c .if1 .taken))
 
 sub-text : tie.Need-sub-text
-sub-text c = search needs
+sub-text c = lit≤ tt
 
 part-text-start : tie.Need-part-text-start
-part-text-start c = search needs
+part-text-start c = lit≤ tt
 
 part-text-end : tie.Need-part-text-end
-part-text-end c = search needs
+part-text-end c = le-trans (lit≤ tt) (c .if1 .left)
 
 text-requires : tie.Need-text-requires
-text-requires c κs = search needs
+text-requires c κs = tt
 
 enum-known-description : tie.Need-enum-known-description
-enum-known-description c = search needs
+enum-known-description c = c .match .keys1
 
 enum-told : tie.Need-enum-told
-enum-told c = search needs
+enum-told c = c .match .keys2
 
 returns-2 : tie.Need-returns-2
 unfolding rulesOf field
 returns-2 c = broken _ 1 (part-broken _ _ (c .before .before .text .ensures) (c .enum-told .given .1))
 
 sub-text-2 : tie.Need-sub-text-2
-sub-text-2 c = search needs
+sub-text-2 c = lit≤ tt
 
 part-text-start-2 : tie.Need-part-text-start-2
-part-text-start-2 c = search needs
+part-text-start-2 c = lit≤ tt
 
 part-text-end-2 : tie.Need-part-text-end-2
-part-text-end-2 c = search needs
+part-text-end-2 c = le-trans (lit≤ tt) (c .before .before .before .before .before .if1 .left)
 
 text-requires-2 : tie.Need-text-requires-2
-text-requires-2 c κs = search needs
+text-requires-2 c κs = tt
 
 enum-known-originator : tie.Need-enum-known-originator
-enum-known-originator c = search needs
+enum-known-originator c = c .match2 .keys1
 
 enum-told-2 : tie.Need-enum-told-2
-enum-told-2 c = search needs
+enum-told-2 c = c .match2 .keys2
 
 returns-3 : tie.Need-returns-3
 unfolding rulesOf field
 returns-3 c = broken _ 2 (part-broken _ _ (c .before .before .text2 .ensures) (c .enum-told2 .given .1))
 
 sub-text-3 : tie.Need-sub-text-3
-sub-text-3 c = search needs
+sub-text-3 c = lit≤ tt
 
 part-text-start-3 : tie.Need-part-text-start-3
-part-text-start-3 c = search needs
+part-text-start-3 c = lit≤ tt
 
 part-text-end-3 : tie.Need-part-text-end-3
-part-text-end-3 c = search needs
+part-text-end-3 c = le-trans (lit≤ tt) (c .before .before .before .before .before .before .before .before .before .before .if1 .left)
 
 text-requires-3 : tie.Need-text-requires-3
-text-requires-3 c κs = search needs
+text-requires-3 c κs = tt
 
 enum-known-reference : tie.Need-enum-known-reference
-enum-known-reference c = search needs
+enum-known-reference c = c .match3 .keys1
 
 enum-told-3 : tie.Need-enum-told-3
-enum-told-3 c = search needs
+enum-told-3 c = c .match3 .keys2
 
 returns-4 : tie.Need-returns-4
 unfolding rulesOf field
 returns-4 c = broken _ 3 (part-broken _ _ (c .before .before .text3 .ensures) (c .enum-told3 .given .1))
 
 sub-date : tie.Need-sub-date
-sub-date c = search needs
+sub-date c = lit≤ tt
 
 part-date-start : tie.Need-part-date-start
-part-date-start c = search needs
+part-date-start c = lit≤ tt
 
 part-date-end : tie.Need-part-date-end
-part-date-end c = search needs
+part-date-end c = le-trans (lit≤ tt) (c .before .before .before .before .before .before .before .before .before .before .before .before .before .before .before .if1 .left)
 
 date-requires : tie.Need-date-requires
-date-requires c κs = search needs
+unfolding field
+date-requires c κs = field-length 10 320 (c .before .before .before .before .before .before .before .before .before .before .before .before .before .before .before .before .before .before .args .payload .now) (le-trans (lit≤ tt) (c .before .before .before .before .before .before .before .before .before .before .before .before .before .before .before .before .if1 .left))
 
 enum-known-date : tie.Need-enum-known-date
-enum-known-date c = search needs
+enum-known-date c = c .match4 .keys1
 
 enum-told-4 : tie.Need-enum-told-4
-enum-told-4 c = search needs
+enum-told-4 c = c .match4 .keys2
 
 returns-5 : tie.Need-returns-5
 unfolding rulesOf field
 returns-5 c = broken _ 4 (part-broken _ _ (c .before .before .date .ensures) (c .enum-told4 .given .1))
 
 sub-time : tie.Need-sub-time
-sub-time c = search needs
+sub-time c = lit≤ tt
 
 part-time-start : tie.Need-part-time-start
-part-time-start c = search needs
+part-time-start c = lit≤ tt
 
 part-time-end : tie.Need-part-time-end
-part-time-end c = search needs
+part-time-end c = le-trans (lit≤ tt) (c .before .before .before .before .before .before .before .before .before .before .before .before .before .before .before .before .before .before .before .before .if1 .left)
 
 time-requires : tie.Need-time-requires
-time-requires c κs = search needs
+unfolding field
+time-requires c κs = field-length 8 330 (c .before .before .before .before .before .before .before .before .before .before .before .before .before .before .before .before .before .before .before .before .before .before .before .args .payload .now) (le-trans (lit≤ tt) (c .before .before .before .before .before .before .before .before .before .before .before .before .before .before .before .before .before .before .before .before .before .if1 .left))
 
 enum-known-time : tie.Need-enum-known-time
-enum-known-time c = search needs
+enum-known-time c = c .match5 .keys1
 
 enum-told-5 : tie.Need-enum-told-5
-enum-told-5 c = search needs
+enum-told-5 c = c .match5 .keys2
 
 returns-6 : tie.Need-returns-6
 unfolding rulesOf field
 returns-6 c = broken _ 5 (part-broken _ _ (c .before .before .time .ensures) (c .enum-told5 .given .1))
 
 read2-requires : tie.Need-read2-requires
-read2-requires c κs = search needs
+read2-requires c κs = le-trans (lit≤ tt) (c .before .before .before .before .before .before .before .before .before .before .before .before .before .before .before .before .before .before .before .before .before .before .before .before .before .if1 .left)
 
 sub-rest-good : tie.Need-sub-rest-good
-sub-rest-good c = search needs
+sub-rest-good c = lit≤ tt
 
 part-rest-good-start : tie.Need-part-rest-good-start
-part-rest-good-start c = search needs
+part-rest-good-start c = lit≤ tt
 
 part-rest-good-end : tie.Need-part-rest-good-end
-part-rest-good-end c = search needs
+part-rest-good-end c = le-trans (lit≤ tt) (c .before .before .before .before .before .before .before .before .before .before .before .before .before .before .before .before .before .before .before .before .before .before .before .before .before .before .if1 .left)
 
 rest-good-requires : tie.Need-rest-good-requires
-rest-good-requires c κs = search needs
+rest-good-requires c κs = tt
 
 returns-7 : tie.Need-returns-7
 unfolding rulesOf field
@@ -161,13 +166,13 @@ part-text-end-4 : tie.Need-part-text-end-4
 part-text-end-4 c = search needs
 
 text-requires-4 : tie.Need-text-requires-4
-text-requires-4 c κs = search needs
+text-requires-4 c κs = tt
 
 enum-known-history : tie.Need-enum-known-history
-enum-known-history c = search needs
+enum-known-history c = c .match6 .keys1
 
 enum-told-6 : tie.Need-enum-told-6
-enum-told-6 c = search needs
+enum-told-6 c = c .match6 .keys2
 
 returns-8 : tie.Need-returns-8
 unfolding rulesOf field

@@ -7,9 +7,6 @@ use borrow.Author.Needs.{needs}
 use Rattle.upgrade.proofs.upgrade.Statement.{statement}
 use Rattle.upgrade.proofs.upgrade.Tie as tie
 
-slice-aggregate-examine : tie.Need-slice-aggregate-examine
-slice-aggregate-examine c = search needs
-
 examine-requires : tie.Need-examine-requires
 examine-requires c κs = search needs
 
@@ -21,14 +18,14 @@ enum-known-a c = search needs
 
 convert-requires : tie.Need-convert-requires
 convert-requires c κs =
-    let k = survey-accepted _ _ (sym (c .before .before .before .before .before .examine .ensures .answer) ∙ c .before .before .a .given .1) in
+    let k = survey-accepted _ _ (sym (c .before .before .before .before .examine .ensures) ∙ c .before .before .a .given .1) in
     record { scanned = k .scan; is = k .is; known = k .known }
 
 same-length : tie.Need-same-length
 same-length c = search needs
 
 returns : tie.Need-returns
-returns c = done-refused _ _ _ (survey-refused _ _ (sym (c .before .before .before .before .examine .ensures .answer) ∙ c .before .r .given .1))
+returns c = done-refused _ _ _ (survey-refused _ _ (sym (c .before .before .before .examine .ensures) ∙ c .before .r .given .1))
 
 same-length-2 : tie.Need-same-length-2
 same-length-2 c = search needs
@@ -40,7 +37,6 @@ pub upgrade-spec : {M : Type 1} → statement M
 upgrade-spec =
     tie.close
     (tie.spec
-    slice-aggregate-examine
     examine-requires
     enum-known-r
     enum-known-a

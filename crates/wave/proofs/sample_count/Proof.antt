@@ -11,9 +11,6 @@ use borrow.Author.Needs.{needs}
 use Rattle.wave.proofs.sample_count.Statement.{statement}
 use Rattle.wave.proofs.sample_count.Tie as tie
 
-slice-aggregate-examine : tie.Need-slice-aggregate-examine
-slice-aggregate-examine c = search needs
-
 examine-requires : tie.Need-examine-requires
 examine-requires c κs = search needs
 
@@ -29,7 +26,7 @@ enum-known-fact c = search needs
 fact-count-requires : tie.Need-fact-count-requires
 unfolding tallyOf
 fact-count-requires c κs =
-    let k = survey-accepted _ _ (sym (c .before .before .before .before .before .before .before .before .examine .ensures .answer) ∙ c .before .before .before .before .before .a .given .1) in
+    let k = survey-accepted _ _ (sym (c .before .before .before .before .before .before .before .examine .ensures) ∙ c .before .before .before .before .before .a .given .1) in
     fact-once _ _ _ _ (k .is) (sym (ap (λ (x : Known). x .tally .fact) (k .known)) ∙ c .before .fact .given .1) .inside
 
 enum-told : tie.Need-enum-told
@@ -39,34 +36,33 @@ enum-told-2 : tie.Need-enum-told-2
 enum-told-2 c = search needs
 
 returns : tie.Need-returns
-returns c = sym (samples-refused _ _ (survey-refused _ _ (sym (c .before .before .before .before .examine .ensures .answer) ∙ c .before .r .given .1)))
+returns c = sym (samples-refused _ _ (survey-refused _ _ (sym (c .before .before .before .examine .ensures) ∙ c .before .r .given .1)))
 
 returns-2 : tie.Need-returns-2
 unfolding countAt tallyOf
 returns-2 c =
-    let k = survey-accepted _ _ (sym (c .before .before .before .before .before .before .before .before .before .examine .ensures .answer) ∙ c .before .before .before .before .before .before .a .given .1) in
+    let k = survey-accepted _ _ (sym (c .before .before .before .before .before .before .before .before .examine .ensures) ∙ c .before .before .before .before .before .before .a .given .1) in
     let f = fact-once _ _ _ _ (k .is) (sym (ap (λ (x : Known). x .tally .fact) (k .known)) ∙ c .before .before .fact .given .1) in
     c .fact-count .ensures
-    ∙ ap₂ (λ (x : Known) (p : ℕ). countAt (x .head) p (c .before .before .before .before .before .before .before .before .before .before .before .before .args .file .now)) (k .known) (f .place)
+    ∙ ap₂ (λ (x : Known) (p : ℕ). countAt (x .head) p (c .before .before .before .before .before .before .before .before .before .before .args .file .now)) (k .known) (f .place)
     ∙ sym (samples-given _ _ (k .is) ∙ samples-fact (k .scan) _ (f .there))
 
 returns-3 : tie.Need-returns-3
 unfolding tallyOf
 returns-3 c =
-    let k = survey-accepted _ _ (sym (c .before .before .before .before .before .before .before .examine .ensures .answer) ∙ c .before .before .before .before .a .given .1) in
+    let k = survey-accepted _ _ (sym (c .before .before .before .before .before .before .examine .ensures) ∙ c .before .before .before .before .a .given .1) in
     sym (samples-given _ _ (k .is) ∙ samples-none (k .scan) _ (fact-never _ (sym (ap (λ (x : Known). x .tally .fact) (k .known)) ∙ c .enum-told .given .1)))
 
 returns-4 : tie.Need-returns-4
 unfolding tallyOf
 returns-4 c =
-    let k = survey-accepted _ _ (sym (c .before .before .before .before .before .before .before .examine .ensures .answer) ∙ c .before .before .before .before .a .given .1) in
+    let k = survey-accepted _ _ (sym (c .before .before .before .before .before .before .examine .ensures) ∙ c .before .before .before .before .a .given .1) in
     absurd (fact-more _ _ (k .is) (sym (ap (λ (x : Known). x .tally .fact) (k .known)) ∙ c .enum-told2 .given .1))
 
 pub sample-count-spec : {M : Type 1} → statement M
 sample-count-spec =
     tie.close
     (tie.spec
-    slice-aggregate-examine
     examine-requires
     enum-known-r
     enum-known-a

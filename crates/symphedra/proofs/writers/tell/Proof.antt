@@ -1,0 +1,45 @@
+-- `symphedra::writers::tell` meets its contract: there is no word, or it takes the count.
+-- Assumes nothing.
+use mathlib.Core.Path.{ap}
+use lib.ListN.{set}
+use Rattle.symphedra.proofs.Written.{no-word}
+use borrow.Author.Needs.{needs}
+use Rattle.symphedra.proofs.writers.tell.Statement.{statement}
+use Rattle.symphedra.proofs.writers.tell.Tie as tie
+
+number-of-requires : tie.Need-number-of-requires
+number-of-requires c κs = search needs
+
+returns : tie.Need-returns
+returns c = record { number = c .number-of .ensures; words = no-word _ _ (c .before .if1 .taken) }
+
+count-of-requires : tie.Need-count-of-requires
+count-of-requires c κs = search needs
+
+slice-write-written : tie.Need-slice-write-written
+slice-write-written c = search needs
+
+number-of-requires-2 : tie.Need-number-of-requires-2
+number-of-requires-2 c κs = search needs
+
+same-length : tie.Need-same-length
+same-length c = search needs
+
+returns-2 : tie.Need-returns-2
+returns-2 c =
+    record {
+      number = c .number-of2 .ensures;
+      words = ap (set (c .before .before .before .before .args .written .now) 0) (c .before .count-of .ensures);
+    }
+
+pub tell-spec : {M : Type 1} → statement M
+tell-spec =
+    tie.close
+    (tie.spec
+    number-of-requires
+    returns
+    count-of-requires
+    slice-write-written
+    number-of-requires-2
+    same-length
+    returns-2)
