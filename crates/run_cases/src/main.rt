@@ -35,8 +35,8 @@ fn act(s: State, b: u8, file: &mut [u8], kept: &mut [u8]) {
 }
 
 fn run(input: &[u8]) {
-    let mut file = io::buffer();
-    let mut kept = io::buffer();
+    let mut file = [0u8; 1024];
+    let mut kept = [0u8; 1024];
     let mut s = script::start();
     let mut i: usize = 0;
     while i < input.len() {

@@ -9,24 +9,15 @@ use Rattle.run_cases.proofs.run.Statement.{statement}
 use Rattle.run_cases.proofs.run.Tie as tie
 use Rattle.run_cases.proofs.run.Reads as reads
 use Rattle.run_cases.proofs.run.Lts as lts
-use Rattle.io.proofs.buffer.Reads as buffer-reads
 use Rattle.run_cases.proofs.act.Reads as act-reads
 use Rattle.run_cases.proofs.script.start.Reads as start-reads
 use Rattle.run_cases.proofs.script.step.Reads as step-reads
 
 abbrev Inv-loop : tie.InvT-loop
-Inv-loop input file₀ kept₀ s₀ i₀ file kept s i = (length file ≡ 4096) × (length kept ≡ 4096)
+Inv-loop input file₀ kept₀ s₀ i₀ file kept s i = (length file ≡ 1024) × (length kept ≡ 1024)
 
 abbrev μ-loop : tie.MeasureT-loop
 μ-loop input file₀ kept₀ s₀ i₀ file kept s i = length input - i
-
--- src/main.rt:38:20
-buffer-requires : tie.Need-buffer-requires Inv-loop μ-loop
-buffer-requires c κs = search needs
-
--- src/main.rt:39:20
-buffer-requires-2 : tie.Need-buffer-requires-2 Inv-loop μ-loop
-buffer-requires-2 c κs = search needs
 
 -- src/main.rt:40:9
 start-requires : tie.Need-start-requires Inv-loop μ-loop
@@ -82,8 +73,6 @@ run-spec =
     (tie.spec
     Inv-loop
     μ-loop
-    buffer-requires
-    buffer-requires-2
     start-requires
     loop-holds
     shared-slice-read-b

@@ -1,0 +1,1 @@
+../../run_cases/src/script.rt
