@@ -284,10 +284,13 @@ static void beside_memcpy(void)
     static const uint64_t fmt[9] = {16, 1, 2, 48000, 192000, 4, 16, 0, 0};
     uint8_t *audio = room(audio_len), *out = room(out_len);
     uint64_t written;
-    double copy[ROUNDS], write[2][ROUNDS];
+    double aligned[ROUNDS], copy[ROUNDS], write[2][ROUNDS];
     const struct side *sides[] = {&library, &baseline};
     for (int round = 0; round < ROUNDS; round++) {
         double start = now();
+        memcpy(out, audio, audio_len);
+        aligned[round] = now() - start;
+        start = now();
         memcpy(out + 80, audio, audio_len);
         copy[round] = now() - start;
         for (int s = 0; s < 2; s++) {
@@ -297,14 +300,16 @@ static void beside_memcpy(void)
             write[s][round] = now() - start;
             if (number != 0 || written != out_len)
                 fail("the writer refused");
+            if (memcmp(out + 80, audio, audio_len) != 0)
+                fail("the audio differs");
         }
     }
-    double plain = median(copy), ours = median(write[0]), theirs = median(write[1]);
-    printf("256 MiB of audio, buffers touched before, milliseconds\n");
-    printf("  %-34s %8.1f\n", "memcpy", 1e3 * plain);
-    printf("  %-34s %8.1f   %.2f of memcpy's speed\n", "write_riff, library", 1e3 * ours, plain / ours);
-    printf("  %-34s %8.1f   %.2f of memcpy's speed\n", "write_riff, baseline", 1e3 * theirs,
-           plain / theirs);
+    double best = median(aligned), plain = median(copy), ours = median(write[0]), theirs = median(write[1]);
+    printf("256 MiB of audio, buffers touched before, milliseconds; speed beside the first and the second\n");
+    printf("  %-34s %8.1f\n", "memcpy to byte 80, as in a file", 1e3 * plain);
+    printf("  %-34s %8.1f\n", "memcpy to byte 0, both aligned", 1e3 * best);
+    printf("  %-34s %8.1f   %.2f and %.2f\n", "write_riff, library", 1e3 * ours, plain / ours, best / ours);
+    printf("  %-34s %8.1f   %.2f and %.2f\n", "write_riff, baseline", 1e3 * theirs, plain / theirs, best / theirs);
     free(audio);
     free(out);
 }
