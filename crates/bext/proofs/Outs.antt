@@ -9,7 +9,7 @@ use native.Mathlib.Omega.{arith}
 use borrow.Author.Tests.{leb-true, ltb-true, eqb-true, eqb-false, le-leb, lt-leb}
 use lib.ListN.{length, drop}
 use lib.Dec.{eqb, leb, ltb}
-use Rattle.chunk.specs.declared.Refusal.the-variants.{BadRecord, NoRoom}
+use Rattle.chunk.specs.declared.Refusal.the-variants.{BadRecord, ShortOutput}
 use Rattle.chunk.specs.declared.Written.the-variants as written
 use Rattle.chunk.specs.Refusals.{check, andThen}
 use Rattle.chunk.specs.Writes.{fitting, writtenOf, outputOf}
@@ -115,7 +115,7 @@ pub refuses : (w : Whole) (out : List ℕ) → writable w ≡ false → Writes w
 unfolding bextOut fitting writtenOf outputOf
 refuses w out e = record { answers = rw e; leaves = rw e }
 
-pub lacks-room : (w : Whole) (out : List ℕ) → writable w ≡ true → length out < length (laid w) → Writes w out out (written.Refused NoRoom)
+pub lacks-room : (w : Whole) (out : List ℕ) → writable w ≡ true → length out < length (laid w) → Writes w out out (written.Refused ShortOutput)
 unfolding bextOut fitting writtenOf outputOf
 lacks-room w out e h = record { answers = rw (e, lt-leb (length (laid w)) (length out) h); leaves = rw (e, lt-leb (length (laid w)) (length out) h) }
 

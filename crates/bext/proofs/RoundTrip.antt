@@ -13,7 +13,7 @@ use lib.Dec.{eqb, leb, ltb, lit≤}
 use Rattle.le.specs.Number.{Bytes, bytes, field, number, value}
 use Rattle.le.specs.Choice.{pick, every}
 use Rattle.le.proofs.Laws.{value-bytes, bytes-number, bytes-length, field-length, number-bound}
-use Rattle.chunk.specs.declared.Refusal.the-variants.{BadBext, BadRecord, NoRoom}
+use Rattle.chunk.specs.declared.Refusal.the-variants.{BadBext, BadRecord, ShortOutput}
 use Rattle.chunk.specs.declared.Written.the-variants as written
 use Rattle.chunk.specs.Refusals.{Answer, given, refused, check}
 use Rattle.chunk.specs.Writes.{fitting, writtenOf, outputOf}
@@ -311,8 +311,8 @@ unfolding fitting writtenOf outputOf
 written-reads-back w entry exit n wrote = which (bextOut w) refl (wrote .answers) (wrote .leaves)
   where
     roomy : (b : Bool) (p : List ℕ) → bextOut w ≡ given p
-        → written.Bytes n ≡ writtenOf (pick b (given p) (refused NoRoom))
-        → exit ≡ outputOf entry (pick b (given p) (refused NoRoom))
+        → written.Bytes n ≡ writtenOf (pick b (given p) (refused ShortOutput))
+        → exit ≡ outputOf entry (pick b (given p) (refused ShortOutput))
         → bextIn (take n exit) ≡ given w
     roomy true p e a l =
         let k : n ≡ length p = cc in

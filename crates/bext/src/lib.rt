@@ -411,7 +411,7 @@ pub fn write(
     }
     let size = Bext::HISTORY + history.len();
     if out.len() < size {
-        return Written::Refused(Refusal::NoRoom);
+        return Written::Refused(Refusal::ShortOutput);
     }
     store(
         description,

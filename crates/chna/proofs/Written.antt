@@ -10,7 +10,7 @@ use lib.Dec.{eqb, leb}
 use borrow.Author.Tests.{le-leb, lt-leb, eq-eqb, ne-eqb}
 use Rattle.le.specs.Number.{Bytes, bytes}
 use Rattle.chunk.specs.declared.Refusal.{Refusal}
-use Rattle.chunk.specs.declared.Refusal.the-variants.{BadRecord, NoRoom}
+use Rattle.chunk.specs.declared.Refusal.the-variants.{BadRecord, ShortOutput}
 use Rattle.chunk.specs.declared.Written.the-variants as written
 use Rattle.chunk.specs.Refusals.{Answer, refused, given}
 use Rattle.chunk.specs.Writes.{fitting, writtenOf, outputOf}
@@ -48,13 +48,13 @@ written-length tracks uids s =
 
 -- ---- what the writer answers and leaves
 
-fits-not : (a : Answer (List ℕ)) (bs out : List ℕ) → a ≡ given bs → length out < length bs → fitting out a ≡ refused NoRoom
+fits-not : (a : Answer (List ℕ)) (bs out : List ℕ) → a ≡ given bs → length out < length bs → fitting out a ≡ refused ShortOutput
 unfolding fitting
-fits-not a bs out e h = ap (fitting out) e ∙ unchecked (leb (length bs) (length out)) NoRoom (given bs) (lt-leb (length bs) (length out) h)
+fits-not a bs out e h = ap (fitting out) e ∙ unchecked (leb (length bs) (length out)) ShortOutput (given bs) (lt-leb (length bs) (length out) h)
 
 fits-in : (a : Answer (List ℕ)) (bs out : List ℕ) → a ≡ given bs → length bs ≤ length out → fitting out a ≡ given bs
 unfolding fitting
-fits-in a bs out e h = ap (fitting out) e ∙ checked (leb (length bs) (length out)) NoRoom (given bs) (le-leb (length bs) (length out) h)
+fits-in a bs out e h = ap (fitting out) e ∙ checked (leb (length bs) (length out)) ShortOutput (given bs) (le-leb (length bs) (length out) h)
 
 refusing : (a : Answer (List ℕ)) (r : Refusal) (out : List ℕ) → a ≡ refused r → Writes a out out (written.Refused r)
 unfolding fitting writtenOf outputOf
@@ -73,11 +73,11 @@ module _ (channels tracks uids : ℕ) (s out : List ℕ) where
   writes-unwritable h e = refusing _ BadRecord out (unwritable channels tracks uids s h e)
 
   module _ (b : Bytes s) (h : length s % 40 ≡ 0) (e : wholeGood channels (wholeOf tracks uids s) ≡ true) where
-    pub writes-short : length out < 4 + length s → Writes (chnaFrom channels tracks uids s) out out (written.Refused NoRoom)
+    pub writes-short : length out < 4 + length s → Writes (chnaFrom channels tracks uids s) out out (written.Refused ShortOutput)
     unfolding writtenOf outputOf
     writes-short k =
         let bs : List ℕ = bytes 2 tracks ++ bytes 2 uids ++ padsOff s in
-        let f : fitting out (chnaFrom channels tracks uids s) ≡ refused NoRoom =
+        let f : fitting out (chnaFrom channels tracks uids s) ≡ refused ShortOutput =
         fits-not _ bs out (writable channels tracks uids s b h e) (omega (arith, written-length tracks uids s)) in
         record { answers = sym (ap writtenOf f); leaves = sym (ap (outputOf out) f) }
 

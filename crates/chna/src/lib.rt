@@ -328,7 +328,7 @@ pub fn write(tracks: u64, uids: u64, entries: &[u8], channels: u64, out: &mut [u
     }
     let size = 4 + entries.len();
     if out.len() < size {
-        return Written::Refused(Refusal::NoRoom);
+        return Written::Refused(Refusal::ShortOutput);
     }
     le::store2(out, 0, tracks);
     le::store2(out, 2, uids);

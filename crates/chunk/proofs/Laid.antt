@@ -13,14 +13,14 @@ use borrow.Author.Tests.{le-leb, leb-true, eq-eqb, ne-eqb, eqb-true, eqb-false, 
 use Rattle.le.specs.Number.{number}
 use Rattle.chunk.specs.declared.Entry.{Entry}
 use Rattle.chunk.specs.declared.Refusal.{Refusal}
-use Rattle.chunk.specs.declared.Refusal.the-variants.{CutHeader, TooMany, NoSize, PastEnd}
+use Rattle.chunk.specs.declared.Refusal.the-variants.{CutHeader, TooMany, UnknownSize, PastEnd}
 use Rattle.chunk.specs.declared.Verdict.{Verdict}
 use Rattle.chunk.specs.declared.Verdict.the-variants.{Accepted, Refused}
 use Rattle.chunk.specs.declared.Step.{Step}
 use Rattle.chunk.specs.declared.Step.the-variants.{Chunk, Stop}
 use Rattle.chunk.specs.Refusals.{Answer, refused, given}
 use Rattle.chunk.proofs.Checks.{picked, pick-true, pick-false}
-use Rattle.chunk.specs.Names.{ONES}
+use Rattle.chunk.specs.Fields.{ONES}
 use Rattle.chunk.specs.Walks.{Rule, past, placed, sized, step, stepAt, Walked, follow, walk, ownSize}
 
 -- a chunk whose header stands at an offset
@@ -238,7 +238,7 @@ relaid {at = at} new u h shown (next {e = x} r l) =
 
 -- ---- the rule of the 32-bit walk
 
-pub own-ones : (at name own : ℕ) → own ≡ ONES → ownSize at name own ≡ refused NoSize
+pub own-ones : (at name own : ℕ) → own ≡ ONES → ownSize at name own ≡ refused UnknownSize
 unfolding ownSize
 own-ones at name own h = pick-true _ _ _ (eq-eqb own ONES h)
 

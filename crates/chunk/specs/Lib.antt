@@ -1,4 +1,5 @@
 pub mod Names
+pub mod Fields
 pub mod Refusals
 pub mod Tables
 pub mod Walks

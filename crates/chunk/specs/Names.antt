@@ -35,7 +35,3 @@ BEXT = 0x74786562
 
 abbrev pub CHNA : ℕ
 CHNA = 0x616e6863
-
--- document 01's "All ones": the 32-bit field that holds no size
-abbrev pub ONES : ℕ
-ONES = 0xFFFFFFFF

@@ -3,29 +3,29 @@ use Prim.Native.Nat.{ℕ}
 use mathlib.Core.Bool.{Bool}
 use Rattle.le.specs.Choice.{pick}
 use Rattle.chunk.specs.declared.Refusal.{Refusal}
-use Rattle.chunk.specs.declared.Refusal.the-variants.{Short, NotWave, Unfinished, BadDs64, FormSize, CutHeader, TooMany, NoSize, PastEnd, Chunks, BadFmt, Ragged, BadBext, BadChna, BadRecord, TooLarge, NoRoom, Already64, NoReserve}
+use Rattle.chunk.specs.declared.Refusal.the-variants.{TooShort, NotWave, Unfinished, BadDs64, BadFormSize, CutHeader, TooMany, UnknownSize, PastEnd, BadChunkSet, BadFmt, RaggedAudio, BadBext, BadChna, BadRecord, TooLarge, ShortOutput, Already64, NoReserve}
 use Rattle.chunk.specs.declared.Verdict.{Verdict}
 use Rattle.chunk.specs.declared.Verdict.the-variants.{Accepted, Refused}
 
 -- the document's number of each refusal
 abbrev pub numberOf : Refusal → ℕ
-numberOf Short = 1
+numberOf TooShort = 1
 numberOf NotWave = 2
 numberOf Unfinished = 3
 numberOf BadDs64 = 4
-numberOf FormSize = 5
+numberOf BadFormSize = 5
 numberOf CutHeader = 6
 numberOf TooMany = 9
-numberOf NoSize = 7
+numberOf UnknownSize = 7
 numberOf PastEnd = 8
-numberOf Chunks = 10
+numberOf BadChunkSet = 10
 numberOf BadFmt = 11
-numberOf Ragged = 12
+numberOf RaggedAudio = 12
 numberOf BadBext = 13
 numberOf BadChna = 14
 numberOf BadRecord = 16
 numberOf TooLarge = 17
-numberOf NoRoom = 15
+numberOf ShortOutput = 15
 numberOf Already64 = 18
 numberOf NoReserve = 19
 

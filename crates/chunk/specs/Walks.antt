@@ -8,13 +8,13 @@ use lib.Dec.{eqb, ltb, leb}
 use Rattle.le.specs.Number.{number}
 use Rattle.le.specs.Choice.{pick}
 use Rattle.chunk.specs.declared.Entry.{Entry}
-use Rattle.chunk.specs.declared.Refusal.the-variants.{CutHeader, TooMany, NoSize, PastEnd}
+use Rattle.chunk.specs.declared.Refusal.the-variants.{CutHeader, TooMany, UnknownSize, PastEnd}
 use Rattle.chunk.specs.declared.Verdict.{Verdict}
 use Rattle.chunk.specs.declared.Verdict.the-variants.{Accepted, Refused}
 use Rattle.chunk.specs.declared.Step.{Step}
 use Rattle.chunk.specs.declared.Step.the-variants.{Chunk, Stop}
 use Rattle.chunk.specs.Refusals.{Answer, refused, given}
-use Rattle.chunk.specs.Names.{ONES}
+use Rattle.chunk.specs.Fields.{ONES}
 
 -- A size rule: from a header's offset, its name and its own size field to the true size, or a refusal.
 abbrev pub Rule : Type 0
@@ -66,4 +66,4 @@ walk rule s (suc room) at = follow (stepAt rule s (suc room) at) (λ next. walk 
 -- "in the walk every all-ones chunk size is 7"; any other field is the size
 unfoldable pub ownSize : Rule
 unfolding pick
-ownSize at name own = pick (eqb own ONES) (refused NoSize) (given own)
+ownSize at name own = pick (eqb own ONES) (refused UnknownSize) (given own)

@@ -60,8 +60,8 @@ pub fn step32(file: &[u8], at: u64, room: u64) -> Step
     match due(file, at, room) {
         Due::Stop(v) => Step::Stop(v),
         Due::Header(name, own) => {
-            if own == Name::ONES {
-                return Step::Stop(Verdict::Refused(Refusal::NoSize));
+            if own == super::ONES {
+                return Step::Stop(Verdict::Refused(Refusal::UnknownSize));
             }
             place(file.len() as u64, at, name, own)
         }

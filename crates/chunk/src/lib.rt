@@ -13,7 +13,7 @@ ghost use Rattle.chunk.specs.Tables.{tableOf, setRow};
 // Why a file or a record is refused: document 01's table, in its order.
 pub enum Refusal {
     // 1: the file has fewer than 12 bytes.
-    Short,
+    TooShort,
     // 2: the form's name is unknown, or WAVE is absent.
     NotWave,
     // 3: RIFF with an all-ones form field: the take was never finished.
@@ -21,21 +21,21 @@ pub enum Refusal {
     // 4: ds64 is absent, breaks a rule of its own, or is out of place.
     BadDs64,
     // 5: 8 and the form size are not the file's length.
-    FormSize,
+    BadFormSize,
     // 6: 1 to 7 bytes are left where a header is due.
     CutHeader,
     // 9: a 65th header.
     TooMany,
     // 7: an all-ones size with no true size known.
-    NoSize,
+    UnknownSize,
     // 8: a payload or its pad passes the end.
     PastEnd,
     // 10: fmt or data missing or out of order, a chunk doubled, or a short fact.
-    Chunks,
+    BadChunkSet,
     // 11: a rule of fmt is broken.
     BadFmt,
     // 12: the audio is not whole blocks.
-    Ragged,
+    RaggedAudio,
     // 13: a rule of bext is broken.
     BadBext,
     // 14: a rule of chna is broken.
@@ -45,7 +45,7 @@ pub enum Refusal {
     // 17: a size to write does not fit its 32-bit field.
     TooLarge,
     // 15: the output is too short.
-    NoRoom,
+    ShortOutput,
     // 18: the file to upgrade has a 64-bit form already.
     Already64,
     // 19: the first chunk is no JUNK of 28 bytes or more.
@@ -58,23 +58,23 @@ impl Refusal {
         ensures { λ r. ⌜ r ≡ numberOf self ⌝ }
     {
         match self {
-            Refusal::Short => 1,
+            Refusal::TooShort => 1,
             Refusal::NotWave => 2,
             Refusal::Unfinished => 3,
             Refusal::BadDs64 => 4,
-            Refusal::FormSize => 5,
+            Refusal::BadFormSize => 5,
             Refusal::CutHeader => 6,
             Refusal::TooMany => 9,
-            Refusal::NoSize => 7,
+            Refusal::UnknownSize => 7,
             Refusal::PastEnd => 8,
-            Refusal::Chunks => 10,
+            Refusal::BadChunkSet => 10,
             Refusal::BadFmt => 11,
-            Refusal::Ragged => 12,
+            Refusal::RaggedAudio => 12,
             Refusal::BadBext => 13,
             Refusal::BadChna => 14,
             Refusal::BadRecord => 16,
             Refusal::TooLarge => 17,
-            Refusal::NoRoom => 15,
+            Refusal::ShortOutput => 15,
             Refusal::Already64 => 18,
             Refusal::NoReserve => 19,
         }
@@ -140,10 +140,22 @@ pub fn put_row(words: &mut [u64], i: usize, e: Entry)
     words[at + 3] = 0;
 }
 
-// The names of chunks, and the field that holds no size.
+// A 32-bit size field that holds no size: document 01's "all ones".
+pub const ONES: u64 = 0xFFFF_FFFF;
+
+// The 4-byte names of the format, each as the little-endian number of its bytes.
 pub struct Name;
 
 impl Name {
+    // What bytes 0 to 3 of a file say: its form.
+    pub const RIFF: u64 = 0x4646_4952;
+
+    pub const RF64: u64 = 0x3436_4652;
+
+    pub const BW64: u64 = 0x3436_5742;
+    // What bytes 8 to 11 of every form say.
+    pub const WAVE: u64 = 0x4556_4157;
+    // The chunks.
     pub const DS64: u64 = 0x3436_7364;
 
     pub const JUNK: u64 = 0x4b4e_554a;
@@ -157,8 +169,6 @@ impl Name {
     pub const BEXT: u64 = 0x7478_6562;
 
     pub const CHNA: u64 = 0x616e_6863;
-
-    pub const ONES: u64 = 0xFFFF_FFFF;
 }
 
 // What stands at an offset before the true size is asked: a header's name and size field, or a stop.

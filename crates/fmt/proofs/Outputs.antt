@@ -11,7 +11,7 @@ use lib.Seq.{take-at}
 use lib.Dec.{leb}
 use Rattle.le.specs.Choice.{pick}
 use Rattle.chunk.specs.declared.Refusal.{Refusal}
-use Rattle.chunk.specs.declared.Refusal.the-variants.{NoRoom}
+use Rattle.chunk.specs.declared.Refusal.the-variants.{ShortOutput}
 use Rattle.chunk.specs.declared.Written.the-variants as written
 use Rattle.chunk.specs.Refusals.{Answer, refused, given}
 use Rattle.chunk.specs.Writes.{fitting, writtenOf, outputOf}
@@ -28,8 +28,8 @@ unfolding fitting writtenOf outputOf
 fits-given s (refused r) n e = absurd (let z : _≡_ {A = ℕ} 0 1 = cc in omega arith)
 fits-given s (given bs) n e = cases (leb (length bs) (length s)) e
   where
-    cases : (b : Bool) → written.Bytes n ≡ writtenOf (pick b (given bs) (refused NoRoom))
-        → Wrote (outputOf s (pick b (given bs) (refused NoRoom))) (given bs) n
+    cases : (b : Bool) → written.Bytes n ≡ writtenOf (pick b (given bs) (refused ShortOutput))
+        → Wrote (outputOf s (pick b (given bs) (refused ShortOutput))) (given bs) n
     cases true e =
         let q : n ≡ length bs = cc in
         record { payload = bs; is-given = refl; at-start = take-at bs (drop (length bs) s) n (sym q) }

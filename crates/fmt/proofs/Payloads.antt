@@ -14,7 +14,7 @@ use lib.Dec.{eqb}
 use borrow.Author.Tests.{eq-eqb, eqb-true, le-leb, lt-leb}
 use Rattle.le.specs.Number.{bytes}
 use Rattle.le.proofs.Laws.{sets-append}
-use Rattle.chunk.specs.declared.Refusal.the-variants.{BadRecord, NoRoom}
+use Rattle.chunk.specs.declared.Refusal.the-variants.{BadRecord, ShortOutput}
 use Rattle.chunk.specs.declared.Written.the-variants as written
 use Rattle.chunk.specs.Refusals.{Answer, refused, given}
 use Rattle.chunk.specs.Writes.{fitting, writtenOf, outputOf}
@@ -94,15 +94,15 @@ module _ (f : Format) (s : List ℕ) (can : writable f ≡ true) where
   long : length (formatBytes f) ≡ f .size
   long = payload-length f (writable-true f can .good)
 
-  no-room : length s < f .size → fitting s (formatOut f) ≡ refused NoRoom
+  no-room : length s < f .size → fitting s (formatOut f) ≡ refused ShortOutput
   unfolding fitting
-  no-room h = reported ∙ check-false _ NoRoom (given (formatBytes f)) (lt-leb (length (formatBytes f)) (length s) (omega (arith, long)))
+  no-room h = reported ∙ check-false _ ShortOutput (given (formatBytes f)) (lt-leb (length (formatBytes f)) (length s) (omega (arith, long)))
 
   room : f .size ≤ length s → fitting s (formatOut f) ≡ given (formatBytes f)
   unfolding fitting
-  room h = reported ∙ check-true _ NoRoom (given (formatBytes f)) (le-leb (length (formatBytes f)) (length s) (omega (arith, long)))
+  room h = reported ∙ check-true _ ShortOutput (given (formatBytes f)) (le-leb (length (formatBytes f)) (length s) (omega (arith, long)))
 
-  pub refuse15 : length s < f .size → Writes f s s (written.Refused NoRoom)
+  pub refuse15 : length s < f .size → Writes f s s (written.Refused ShortOutput)
   unfolding writtenOf outputOf
   refuse15 h = record { answers = sym (ap writtenOf (no-room h)); leaves = sym (ap (outputOf s) (no-room h)) }
 

@@ -232,7 +232,7 @@ pub fn write(format: Format, out: &mut [u8]) -> Written
     }
     let size = format.size;
     if (out.len() as u64) < size {
-        return Written::Refused(Refusal::NoRoom);
+        return Written::Refused(Refusal::ShortOutput);
     }
     store_head(format, out);
     store_extra(format, out);

@@ -13,7 +13,8 @@ use Rattle.le.specs.Number.{number}
 use Rattle.le.proofs.Laws.{number-split}
 use Rattle.chunk.specs.declared.Refusal.the-variants.{NotWave}
 use Rattle.chunk.specs.Refusals.{Answer, given}
-use Rattle.chunk.specs.Names.{RIFF, RF64, BW64, WAVE, DS64, ONES}
+use Rattle.chunk.specs.Names.{RIFF, RF64, BW64, WAVE, DS64}
+use Rattle.chunk.specs.Fields.{ONES}
 use Rattle.chunk.proofs.Checks.{picked, true-false, given-inj, refused-given, check-given, check-true, andThen-given, andThen-at, rule-and, or-true, pick-false}
 use Rattle.form.specs.declared.Form.{Form}
 use Rattle.form.specs.declared.Form.the-variants.{Riff, Rf64, Bw64}
@@ -65,7 +66,7 @@ pub form-own : (h : Head) (own : ℕ) → (own ≡ ONES → ⊥) → formSize h 
 unfolding formSize
 form-own h own k = pick-false (eqb own ONES) _ _ (ne-eqb own ONES k)
 
-pub form-ones : (h : Head) → formSize h ONES ≡ h .ds64 .riff
+pub form-ones : (h : Head) → formSize h ONES ≡ h .ds64 .«form_size»
 unfolding formSize
 form-ones h = refl
 
@@ -139,8 +140,8 @@ rules-ds64 len name size count r =
 
 -- each 64-bit number of ds64 is its low half and 2 ^ 32 times its high half
 pub ds64-whole : (s : List ℕ) → 48 ≤ length s
-    → (ds64At s .riff ≡ number 4 20 s + 0x1_0000_0000 * number 4 24 s)
-    × (ds64At s .audio ≡ number 4 28 s + 0x1_0000_0000 * number 4 32 s)
+    → (ds64At s .«form_size» ≡ number 4 20 s + 0x1_0000_0000 * number 4 24 s)
+    × (ds64At s .«data_size» ≡ number 4 28 s + 0x1_0000_0000 * number 4 32 s)
     × (ds64At s .third ≡ number 4 36 s + 0x1_0000_0000 * number 4 40 s)
 unfolding ds64At
 ds64-whole s h =

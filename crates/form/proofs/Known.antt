@@ -9,9 +9,9 @@ use lib.ListN.{drop}
 use lib.Seq.{drop-drop}
 use borrow.Author.Tests.{eq-eqb, ne-eqb}
 use Rattle.le.specs.Number.{number, field}
-use Rattle.chunk.specs.declared.Refusal.the-variants.{NoSize, BadDs64}
+use Rattle.chunk.specs.declared.Refusal.the-variants.{UnknownSize, BadDs64}
 use Rattle.chunk.specs.Refusals.{Answer, refused, given, check}
-use Rattle.chunk.specs.Names.{ONES}
+use Rattle.chunk.specs.Fields.{ONES}
 use Rattle.chunk.proofs.Checks.{check-true, check-false, pick-true, pick-false}
 use Rattle.form.specs.declared.Head.{Head}
 use Rattle.form.specs.Sizes.{Known, entriesIn, entrySize, strayDs64, onesSize, trueSize}
@@ -33,7 +33,7 @@ entry-later name (suc left) at s h n =
     (ap (λ (k : ℕ). entrySize name (entriesIn k (drop (at + 12) s))) (let e : left ≡ suc left - 1 = omega arith in e))
 
 -- no entry is left
-pub entry-none : (name left at : ℕ) (s : List ℕ) → left ≡ 0 → entrySize name (entriesIn left (drop at s)) ≡ refused NoSize
+pub entry-none : (name left at : ℕ) (s : List ℕ) → left ≡ 0 → entrySize name (entriesIn left (drop at s)) ≡ refused UnknownSize
 unfolding entriesIn entrySize
 entry-none name left at s e = rw e
 

@@ -11,9 +11,10 @@ use borrow.Author.Tests.{eq-eqb, ne-eqb, le-leb, lt-leb, eqb-true}
 use Rattle.le.specs.Number.{number}
 use Rattle.le.specs.Choice.{pick}
 use Rattle.chunk.specs.declared.Refusal.{Refusal}
-use Rattle.chunk.specs.declared.Refusal.the-variants.{Short, NotWave, Unfinished, BadDs64, FormSize}
+use Rattle.chunk.specs.declared.Refusal.the-variants.{TooShort, NotWave, Unfinished, BadDs64, BadFormSize}
 use Rattle.chunk.specs.Refusals.{Answer, refused, given, check, andThen}
-use Rattle.chunk.specs.Names.{RIFF, RF64, BW64, WAVE, ONES}
+use Rattle.chunk.specs.Names.{RIFF, RF64, BW64, WAVE}
+use Rattle.chunk.specs.Fields.{ONES}
 use Rattle.chunk.proofs.Checks.{picked, check-true, check-false, andThen-at}
 use Rattle.form.specs.declared.Form.{Form}
 use Rattle.form.specs.declared.Form.the-variants.{Riff, Rf64, Bw64}
@@ -86,16 +87,16 @@ pub whole-in : (h : Head) (s : List ℕ) → 12 ≤ length s → 8 + formSize h 
 unfolding wholeAs
 whole-in h s l e = check-true _ _ _ (true-whole _ _ e (omega arith))
 
-pub whole-out : (h : Head) (s : List ℕ) → (8 + formSize h (number 4 4 s) ≡ length s → ⊥) → wholeAs h s ≡ refused FormSize
+pub whole-out : (h : Head) (s : List ℕ) → (8 + formSize h (number 4 4 s) ≡ length s → ⊥) → wholeAs h s ≡ refused BadFormSize
 unfolding wholeAs
 whole-out h s n = check-false _ _ _ (not-whole _ _ n)
 
-pub size-ones : (h : Head) (own : ℕ) → own ≡ ONES → formSize h own ≡ h .ds64 .riff
+pub size-ones : (h : Head) (own : ℕ) → own ≡ ONES → formSize h own ≡ h .ds64 .«form_size»
 size-ones h own e = ap (formSize h) e ∙ form-ones h
 
 -- ---- checks 1 to 5 in turn
 
-pub open-short : (s : List ℕ) → length s < 12 → headOf s ≡ refused Short
+pub open-short : (s : List ℕ) → length s < 12 → headOf s ≡ refused TooShort
 unfolding headOf
 open-short s h = check-false _ _ _ (lt-leb 12 (length s) h)
 
@@ -117,7 +118,7 @@ open-wave s f l e w =
 
 -- ---- checks 1, 2 and 5 of the 32-bit walk
 
-pub open32-short : (s : List ℕ) → length s < 12 → openFor32 s ≡ refused Short
+pub open32-short : (s : List ℕ) → length s < 12 → openFor32 s ≡ refused TooShort
 unfolding openFor32
 open32-short s h = check-false _ _ _ (lt-leb 12 (length s) h)
 
@@ -132,7 +133,7 @@ open32-ones s l w e =
     ∙ check-true (eqb (number 4 4 s) ONES || wholeForm (length s) (number 4 4 s)) _ _ (rw (eq-eqb (number 4 4 s) ONES e))
 
 pub open32-out : (s : List ℕ) → 12 ≤ length s → number 4 8 s ≡ WAVE → (number 4 4 s ≡ ONES → ⊥)
-    → (8 + number 4 4 s ≡ length s → ⊥) → openFor32 s ≡ refused FormSize
+    → (8 + number 4 4 s ≡ length s → ⊥) → openFor32 s ≡ refused BadFormSize
 unfolding openFor32
 open32-out s l w n k =
     check-true _ _ _ (le-leb 12 (length s) l) ∙ check-true _ _ _ (eq-eqb _ _ w)

@@ -9,9 +9,10 @@ use native.Mathlib.Omega.{arith}
 use lib.Dec.{eqb}
 use borrow.Author.Tests.{eq-eqb, ne-eqb, eqb-true, not-true}
 use Rattle.le.specs.Choice.{pick}
-use Rattle.chunk.specs.declared.Refusal.the-variants.{BadDs64, NoSize}
+use Rattle.chunk.specs.declared.Refusal.the-variants.{BadDs64, UnknownSize}
 use Rattle.chunk.specs.Refusals.{given}
-use Rattle.chunk.specs.Names.{DS64, DATA, ONES}
+use Rattle.chunk.specs.Names.{DS64, DATA}
+use Rattle.chunk.specs.Fields.{ONES}
 use Rattle.chunk.proofs.Checks.{given-inj, refused-given, true-false, check-given, pick-true, pick-false}
 use Rattle.form.specs.declared.Form.{Form}
 use Rattle.form.specs.declared.Form.the-variants.{Riff, Rf64, Bw64}
@@ -59,7 +60,7 @@ module _ (h : Head) (ks : List Known) (at name own n : ℕ) (e : trueSize h ks a
   pub riff-own : h .form ≡ Riff → own ≡ ONES → ⊥
   unfolding onesSize
   riff-own f k =
-      refused-given NoSize n
+      refused-given UnknownSize n
       (sym (ap (λ (x : Form). onesSize x (h .ds64) ks name) f)
       ∙ sym (pick-true (eqb own ONES) _ _ (eq-eqb own ONES k))
       ∙ allowed .1)
@@ -81,11 +82,11 @@ true-ds64 h ks own w l = true-field h ks 12 DS64 own (first-placed (h .form) w) 
 
 -- "on data, the ds64 data size"
 pub true-data : (h : Head) (ks : List Known) (at : ℕ) → isWide (h .form) ≡ true
-    → trueSize h ks at DATA ONES ≡ given (h .ds64 .audio)
+    → trueSize h ks at DATA ONES ≡ given (h .ds64 .«data_size»)
 unfolding onesSize isWide
 true-data h ks at w = true-ones h ks at DATA ONES (other-placed (h .form) at DATA (λ p. omega arith)) refl ∙ go (h .form) w
   where
-    go : (f : Form) → isWide f ≡ true → onesSize f (h .ds64) ks DATA ≡ given (h .ds64 .audio)
+    go : (f : Form) → isWide f ≡ true → onesSize f (h .ds64) ks DATA ≡ given (h .ds64 .«data_size»)
     go Riff e = absurd (true-false false e refl)
     go Rf64 e = refl
     go Bw64 e = refl

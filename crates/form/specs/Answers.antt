@@ -5,7 +5,7 @@ use mathlib.Core.Bool.{Bool, true}
 use mathlib.Core.List.{List}
 use lib.ListN.{length}
 use Rattle.le.specs.Number.{number}
-use Rattle.chunk.specs.declared.Refusal.the-variants.{BadDs64, FormSize}
+use Rattle.chunk.specs.declared.Refusal.the-variants.{BadDs64, BadFormSize}
 use Rattle.chunk.specs.Refusals.{Answer, refused, given, check}
 use Rattle.form.specs.declared.Form.{Form}
 use Rattle.form.specs.declared.Head.{Head}
@@ -37,7 +37,7 @@ wideAs f s = check (ds64Good (length s) (number 4 12 s) (number 4 16 s) (number 
 -- check 5
 unfoldable pub wholeAs : Head → List ℕ → Answer Head
 unfolding check
-wholeAs h s = check (wholeForm (length s) (formSize h (number 4 4 s))) FormSize (given h)
+wholeAs h s = check (wholeForm (length s) (formSize h (number 4 4 s))) BadFormSize (given h)
 
 -- a 64-bit form's entries lie in the file
 pub record EntriesFit (h : Head) (s : List ℕ) : Type 0 where

@@ -6,9 +6,10 @@ use lib.ListN.{length}
 use lib.Dec.{eqb, leb}
 use Rattle.le.specs.Number.{number}
 use Rattle.le.specs.Choice.{pick, every}
-use Rattle.chunk.specs.declared.Refusal.the-variants.{Short, NotWave, Unfinished, BadDs64, FormSize}
+use Rattle.chunk.specs.declared.Refusal.the-variants.{TooShort, NotWave, Unfinished, BadDs64, BadFormSize}
 use Rattle.chunk.specs.Refusals.{Answer, refused, given, check, andThen}
-use Rattle.chunk.specs.Names.{RIFF, RF64, BW64, WAVE, DS64, ONES}
+use Rattle.chunk.specs.Names.{RIFF, RF64, BW64, WAVE, DS64}
+use Rattle.chunk.specs.Fields.{ONES}
 use Rattle.form.specs.declared.Form.{Form}
 use Rattle.form.specs.declared.Form.the-variants.{Riff, Rf64, Bw64}
 use Rattle.form.specs.declared.Ds64.{Ds64}
@@ -51,10 +52,10 @@ ds64Good len name size count =
 
 -- "Its payload: form size (64 bits), data size (64 bits), a third 64-bit number, the entry count (32 bits)"
 unfoldable pub ds64At : List ℕ → Ds64
-ds64At s = record { riff = number 8 20 s; audio = number 8 28 s; third = number 8 36 s; count = number 4 44 s }
+ds64At s = record { «form_size» = number 8 20 s; «data_size» = number 8 28 s; third = number 8 36 s; count = number 4 44 s }
 
 unfoldable pub noDs64 : Ds64
-noDs64 = record { riff = 0; audio = 0; third = 0; count = 0 }
+noDs64 = record { «form_size» = 0; «data_size» = 0; third = 0; count = 0 }
 
 -- check 3 for RIFF, "an all-ones form field"; check 4 for the 64-bit forms
 unfoldable pub headAs : Form → List ℕ → Answer Head
@@ -66,7 +67,7 @@ headAs Bw64 s = check (ds64Good (length s) (number 4 12 s) (number 4 16 s) (numb
 -- "A size field that is not all ones is the true size. In the 64-bit forms an all-ones form field means the ds64 form size"
 unfoldable pub formSize : Head → ℕ → ℕ
 unfolding pick
-formSize h own = pick (eqb own ONES) (h .ds64 .riff) own
+formSize h own = pick (eqb own ONES) (h .ds64 .«form_size») own
 
 -- "True form size S must make 8 + S equal L, with S at least 4"
 unfoldable pub wholeForm : ℕ → ℕ → Bool
@@ -77,11 +78,11 @@ wholeForm len size = every (eqb (8 + size) len ∷ leb 4 size ∷ [])
 unfoldable pub headOf : List ℕ → Answer Head
 unfolding check andThen
 headOf s =
-    check (leb 12 (length s)) Short
+    check (leb 12 (length s)) TooShort
     (andThen (formOf (number 4 0 s)) λ form.
     check (eqb (number 4 8 s) WAVE) NotWave
     (andThen (headAs form s) λ h.
-    check (wholeForm (length s) (formSize h (number 4 4 s))) FormSize
+    check (wholeForm (length s) (formSize h (number 4 4 s))) BadFormSize
     (given h)))
 
 -- checks 1, 2 and 5 of the 32-bit walk, which "ignores the form's name and ds64. It ends at L if the form field is all
@@ -89,7 +90,7 @@ headOf s =
 unfoldable pub openFor32 : List ℕ → Answer ℕ
 unfolding check
 openFor32 s =
-    check (leb 12 (length s)) Short
+    check (leb 12 (length s)) TooShort
     (check (eqb (number 4 8 s) WAVE) NotWave
-    (check (eqb (number 4 4 s) ONES || wholeForm (length s) (number 4 4 s)) FormSize
+    (check (eqb (number 4 4 s) ONES || wholeForm (length s) (number 4 4 s)) BadFormSize
     (given 12)))

@@ -6,9 +6,10 @@ use lib.ListN.{drop}
 use lib.Dec.{eqb}
 use Rattle.le.specs.Number.{number}
 use Rattle.le.specs.Choice.{pick}
-use Rattle.chunk.specs.declared.Refusal.the-variants.{BadDs64, NoSize}
+use Rattle.chunk.specs.declared.Refusal.the-variants.{BadDs64, UnknownSize}
 use Rattle.chunk.specs.Refusals.{Answer, refused, given, check}
-use Rattle.chunk.specs.Names.{DS64, DATA, ONES}
+use Rattle.chunk.specs.Names.{DS64, DATA}
+use Rattle.chunk.specs.Fields.{ONES}
 use Rattle.chunk.specs.Walks.{Rule}
 use Rattle.form.specs.declared.Form.{Form}
 use Rattle.form.specs.declared.Form.the-variants.{Riff, Rf64, Bw64}
@@ -33,18 +34,18 @@ entriesOf h s = entriesIn (h .ds64 .count) (drop 48 s)
 -- "the first entry of that name", or 7
 unfoldable pub entrySize : ℕ → List Known → Answer ℕ
 unfolding pick
-entrySize name [] = refused NoSize
+entrySize name [] = refused UnknownSize
 entrySize name (k ∷ ks) = pick (eqb (k .name) name) (given (k .size)) (entrySize name ks)
 
 -- "on data, the ds64 data size; on another chunk, the first entry of that name"
 unfoldable pub knownSize : Ds64 → List Known → ℕ → Answer ℕ
 unfolding pick
-knownSize d ks name = pick (eqb name DATA) (given (d .audio)) (entrySize name ks)
+knownSize d ks name = pick (eqb name DATA) (given (d .«data_size»)) (entrySize name ks)
 
 -- an all-ones field: 7 in RIFF, in the 64-bit forms what ds64 says
 unfoldable pub onesSize : Form → Ds64 → List Known → ℕ → Answer ℕ
 unfolding knownSize
-onesSize Riff d ks name = refused NoSize
+onesSize Riff d ks name = refused UnknownSize
 onesSize Rf64 d ks name = knownSize d ks name
 onesSize Bw64 d ks name = knownSize d ks name
 

@@ -11,22 +11,10 @@ pub enum Form {
     Bw64,
 }
 
-impl Form {
-    pub const RIFF: u64 = 0x4646_4952;
-
-    pub const RF64: u64 = 0x3436_4652;
-
-    pub const BW64: u64 = 0x3436_5742;
-    // What bytes 8 to 11 of every form say.
-    pub const WAVE: u64 = 0x4556_4157;
-}
-
 // What ds64 says ahead of its entries (000 5.5, 002 2.4).
 pub struct Ds64 {
-    // The form size.
-    pub riff: u64,
-    // The data size.
-    pub audio: u64,
+    pub form_size: u64,
+    pub data_size: u64,
     // The sample count in RF64, nothing in BW64.
     pub third: u64,
     // How many entries follow.

@@ -19,13 +19,13 @@ ghost use Rattle.form.specs.Answers.{namedAs, openedAs, wideAs, wholeAs}
 fn form_of(name: u64) -> Named
     ensures { λ r. ⌜ r ≡ namedAs (formOf name) ⌝ }
 {
-    if name == Form::RIFF {
+    if name == Name::RIFF {
         return Named::Form(Form::Riff);
     }
-    if name == Form::RF64 {
+    if name == Name::RF64 {
         return Named::Form(Form::Rf64);
     }
-    if name == Form::BW64 {
+    if name == Name::BW64 {
         return Named::Form(Form::Bw64);
     }
     Named::Unknown
@@ -44,7 +44,7 @@ fn ds64_good(file: &[u8]) -> bool
     if le::read4(file, 12) != Name::DS64 {
         return false;
     }
-    if size == Name::ONES {
+    if size == chunk::ONES {
         return false;
     }
     if Ds64::LIMIT < count {
@@ -67,8 +67,8 @@ fn wide_head(file: &[u8], form: Form) -> Opened
         return Opened::Refused(Refusal::BadDs64);
     }
     let ds64 = Ds64 {
-        riff: le::read8(file, 20),
-        audio: le::read8(file, 28),
+        form_size: le::read8(file, 20),
+        data_size: le::read8(file, 28),
         third: le::read8(file, 36),
         count: le::read4(file, 44),
     };
@@ -84,12 +84,12 @@ fn head_of(file: &[u8], form: Form) -> Opened
         Form::Rf64 => wide_head(file, Form::Rf64),
         Form::Bw64 => wide_head(file, Form::Bw64),
         Form::Riff => {
-            if le::read4(file, 4) == Name::ONES {
+            if le::read4(file, 4) == chunk::ONES {
                 return Opened::Refused(Refusal::Unfinished);
             }
             let ds64 = Ds64 {
-                riff: 0,
-                audio: 0,
+                form_size: 0,
+                data_size: 0,
                 third: 0,
                 count: 0,
             };
@@ -108,14 +108,14 @@ fn whole(file: &[u8], h: Head) -> Opened
 {
     let rest = file.len() as u64 - 8;
     let own = le::read4(file, 4);
-    if own == Name::ONES {
-        if h.ds64.riff != rest {
-            return Opened::Refused(Refusal::FormSize);
+    if own == chunk::ONES {
+        if h.ds64.form_size != rest {
+            return Opened::Refused(Refusal::BadFormSize);
         }
         return Opened::Head(h);
     }
     if own != rest {
-        return Opened::Refused(Refusal::FormSize);
+        return Opened::Refused(Refusal::BadFormSize);
     }
     Opened::Head(h)
 }
@@ -125,13 +125,13 @@ pub fn open(file: &[u8]) -> Opened
     ensures { λ r. ⌜ r ≡ openedAs (headOf (now (file .entry))) ⌝ }
 {
     if file.len() < 12 {
-        return Opened::Refused(Refusal::Short);
+        return Opened::Refused(Refusal::TooShort);
     }
     let named = form_of(le::read4(file, 0));
     let Named::Form(form) = named else {
         return Opened::Refused(Refusal::NotWave);
     };
-    if le::read4(file, 8) != Form::WAVE {
+    if le::read4(file, 8) != Name::WAVE {
         return Opened::Refused(Refusal::NotWave);
     }
     match head_of(file, form) {
@@ -145,17 +145,17 @@ pub fn open32(file: &[u8]) -> Verdict
     ensures { λ r. ⌜ r ≡ verdictOf (openFor32 (now (file .entry))) ⌝ }
 {
     if file.len() < 12 {
-        return Verdict::Refused(Refusal::Short);
+        return Verdict::Refused(Refusal::TooShort);
     }
-    if le::read4(file, 8) != Form::WAVE {
+    if le::read4(file, 8) != Name::WAVE {
         return Verdict::Refused(Refusal::NotWave);
     }
     let own = le::read4(file, 4);
-    if own == Name::ONES {
+    if own == chunk::ONES {
         return Verdict::Accepted;
     }
     if own != file.len() as u64 - 8 {
-        return Verdict::Refused(Refusal::FormSize);
+        return Verdict::Refused(Refusal::BadFormSize);
     }
     Verdict::Accepted
 }

@@ -32,7 +32,7 @@ fn entry_size(file: &[u8], count: u64, name: u64) -> Size
         at += 12;
         left -= 1;
     }
-    Size::Refused(Refusal::NoSize)
+    Size::Refused(Refusal::UnknownSize)
 }
 
 // What ds64 says of a chunk whose own field is all ones.
@@ -41,7 +41,7 @@ fn known_size(file: &[u8], ds64: Ds64, name: u64) -> Size
     ensures { λ r. ⌜ r ≡ sizeAs (knownSize ds64 (entriesIn (ds64 .count) (drop 48 (now (file .entry)))) name) ⌝ }
 {
     if name == Name::DATA {
-        return Size::Bytes(ds64.audio);
+        return Size::Bytes(ds64.data_size);
     }
     entry_size(file, ds64.count, name)
 }
@@ -69,12 +69,12 @@ fn true_size(file: &[u8], head: Head, at: u64, name: u64, own: u64) -> Size
     if stray_ds64(form, at, name) {
         return Size::Refused(Refusal::BadDs64);
     }
-    if own != Name::ONES {
+    if own != chunk::ONES {
         return Size::Bytes(own);
     }
     let ds64 = head.ds64;
     match form {
-        Form::Riff => Size::Refused(Refusal::NoSize),
+        Form::Riff => Size::Refused(Refusal::UnknownSize),
         Form::Rf64 => known_size(file, ds64, name),
         Form::Bw64 => known_size(file, ds64, name),
     }

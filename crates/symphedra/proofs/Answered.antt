@@ -8,7 +8,7 @@ use lib.ListN.{length}
 use lib.Dec.{leb}
 use borrow.Author.Tests.{le-leb, lt-leb}
 use Rattle.le.specs.Choice.{pick}
-use Rattle.chunk.specs.declared.Refusal.the-variants.{NoRoom}
+use Rattle.chunk.specs.declared.Refusal.the-variants.{ShortOutput}
 use Rattle.chunk.specs.declared.Verdict.{Verdict}
 use Rattle.chunk.specs.declared.Verdict.the-variants.{Refused}
 use Rattle.chunk.specs.Refusals.{verdictNumber, verdictOf}
@@ -32,7 +32,7 @@ answered least v new w w' r h n q =
     record { number = n ∙ sym (pick-true _ _ _ e); words = q ∙ sym (pick-true _ _ _ e) }
 
 -- the number of a verdict that has 15 where the words are too few
-numbered : (b : Bool) (v : Verdict) → verdictNumber (pick b v (Refused NoRoom)) ≡ pick b (verdictNumber v) 15
+numbered : (b : Bool) (v : Verdict) → verdictNumber (pick b v (Refused ShortOutput)) ≡ pick b (verdictNumber v) 15
 unfolding pick
 numbered true v = refl
 numbered false v = refl

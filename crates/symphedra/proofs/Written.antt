@@ -12,7 +12,7 @@ use lib.Dec.{eqb, leb}
 use borrow.Author.Tests.{le-leb, lt-leb, ne-eqb}
 use Rattle.le.specs.Choice.{pick}
 use Rattle.chunk.specs.declared.Refusal.{Refusal}
-use Rattle.chunk.specs.declared.Refusal.the-variants.{NoRoom}
+use Rattle.chunk.specs.declared.Refusal.the-variants.{ShortOutput}
 use Rattle.chunk.specs.declared.Written.{Written}
 use Rattle.chunk.specs.declared.Written.the-variants as written
 use Rattle.chunk.specs.Refusals.{Answer, refused, given, check, andThen}
@@ -26,12 +26,12 @@ Filled a = (bs : List ℕ) → a ≡ given bs → 1 ≤ length bs
 
 -- ---- with a word to count in, and without one
 
-once : (b : Bool) (y : Answer (List ℕ)) → b ≡ true → andThen y (λ bs. check b NoRoom (given bs)) ≡ y
+once : (b : Bool) (y : Answer (List ℕ)) → b ≡ true → andThen y (λ bs. check b ShortOutput (given bs)) ≡ y
 unfolding andThen
 once b (refused r) e = refl
-once b (given bs) e = check-true b NoRoom (given bs) e
+once b (given bs) e = check-true b ShortOutput (given bs) e
 
-never : (out bs : List ℕ) (b : Bool) → andThen (check b NoRoom (given bs)) (λ (bs : List ℕ). check (leb 1 0) NoRoom (given bs)) ≡ refused NoRoom
+never : (out bs : List ℕ) (b : Bool) → andThen (check b ShortOutput (given bs)) (λ (bs : List ℕ). check (leb 1 0) ShortOutput (given bs)) ≡ refused ShortOutput
 unfolding andThen check
 never out bs true = refl
 never out bs false = refl
@@ -51,8 +51,8 @@ unfolding fitting counted
 without out (refused r) h = record { why = r; writer = refl; export = refl }
 without out (given bs) h =
     record {
-      why = NoRoom;
-      writer = check-false (leb (length bs) 0) NoRoom (given bs) (lt-leb (length bs) 0 (h bs refl));
+      why = ShortOutput;
+      writer = check-false (leb (length bs) 0) ShortOutput (given bs) (lt-leb (length bs) 0 (h bs refl));
       export = never out bs (leb (length bs) (length out));
     }
 

@@ -4,7 +4,7 @@ use mathlib.Core.Path.{_≡_}
 use mathlib.Core.List.{List}
 use lib.ListN.{length, getD, set}
 use lib.Dec.{eqb, leb}
-use Rattle.chunk.specs.declared.Refusal.the-variants.{BadRecord, NoRoom}
+use Rattle.chunk.specs.declared.Refusal.the-variants.{BadRecord, ShortOutput}
 use Rattle.chunk.specs.declared.Written.{Written}
 use Rattle.chunk.specs.declared.Written.the-variants as written
 use Rattle.chunk.specs.Refusals.{Answer, numberOf, given, check, andThen}
@@ -17,7 +17,7 @@ use Rattle.writer.specs.Files.{fileOut}
 -- "written: 1 word .. where there is no such word the call gives 15, in 15's place after 16 and 17"
 unfoldable pub counted : List ℕ → List ℕ → Answer (List ℕ) → Answer (List ℕ)
 unfolding andThen check
-counted out w a = andThen (fitting out a) λ bs. check (leb 1 (length w)) NoRoom (given bs)
+counted out w a = andThen (fitting out a) λ bs. check (leb 1 (length w)) ShortOutput (given bs)
 
 -- the number that is returned
 unfoldable pub numberFor : Written → ℕ

@@ -12,10 +12,11 @@ use borrow.Author.Tests.{eq-eqb, ne-eqb, eqb-true, leb-true, le-leb}
 use Rattle.le.specs.Number.{number, stored}
 use Rattle.chunk.specs.declared.Entry.{Entry}
 use Rattle.chunk.specs.declared.Refusal.{Refusal}
-use Rattle.chunk.specs.declared.Refusal.the-variants.{Ragged, Already64, NoReserve}
+use Rattle.chunk.specs.declared.Refusal.the-variants.{RaggedAudio, Already64, NoReserve}
 use Rattle.chunk.specs.declared.Verdict.the-variants.{Accepted, Refused}
 use Rattle.chunk.specs.Refusals.{Answer, refused, given, andThen, verdictOf}
-use Rattle.chunk.specs.Names.{DS64, JUNK, FMT, FACT, DATA, ONES}
+use Rattle.chunk.specs.Names.{DS64, JUNK, FMT, FACT, DATA}
+use Rattle.chunk.specs.Fields.{ONES}
 use Rattle.chunk.specs.Tables.{count, find}
 use Rattle.chunk.specs.Walks.{past}
 use Rattle.chunk.proofs.Checks.{pick-true, pick-false, check-given, given-inj, andThen-given}
@@ -190,7 +191,7 @@ module _ (s : List ℕ) (k : Known) (w : Knows s k) where
   unfolding judged wholeBlocks
   known-block =
       let j = andThen-given (formatIn (payload (find FMT (a .rows)) s)) _ (a .format) (scan-scanned s a (w .is) .format) in
-      let c = check-given (eqb (find DATA (a .rows) .size % j .0 .block) 0) Ragged (given (j .0)) (a .format) (j .2) in
+      let c = check-given (eqb (find DATA (a .rows) .size % j .0 .block) 0) RaggedAudio (given (j .0)) (a .format) (j .2) in
       subst (λ (x : Known). 1 ≤ x .format .block) (sym (w .known))
       (subst (λ (f : Format). 1 ≤ f .block) (given-inj (j .0) (a .format) (c .1)) (block-least _ (j .0) (j .1)))
 

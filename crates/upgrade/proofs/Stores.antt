@@ -13,7 +13,8 @@ use lib.Seq.{getD-take, getD-drop}
 use lib.Dec.{lit<, lit≤}
 use Rattle.le.specs.Number.{field, number}
 use Rattle.le.specs.Choice.{pick}
-use Rattle.chunk.specs.Names.{DS64, FACT, DATA, ONES}
+use Rattle.chunk.specs.Names.{DS64, FACT, DATA}
+use Rattle.chunk.specs.Fields.{ONES}
 use Rattle.chunk.specs.Tables.{find}
 use Rattle.chunk.proofs.Checks.{pick-true}
 use Rattle.form.specs.Forms.{formSize}

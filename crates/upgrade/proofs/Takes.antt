@@ -14,7 +14,8 @@ use borrow.Author.Tests.{ne-eqb, eqb-false, not-true}
 use Rattle.le.specs.Number.{Bytes, number}
 use Rattle.le.proofs.Laws.{number-bound}
 use Rattle.chunk.specs.declared.Entry.{Entry}
-use Rattle.chunk.specs.Names.{DS64, JUNK, FMT, FACT, DATA, ONES}
+use Rattle.chunk.specs.Names.{DS64, JUNK, FMT, FACT, DATA}
+use Rattle.chunk.specs.Fields.{ONES}
 use Rattle.chunk.specs.Refusals.{given}
 use Rattle.chunk.specs.Tables.{count, find}
 use Rattle.chunk.specs.Walks.{Rule, past}

@@ -13,9 +13,10 @@ use lib.Dec.{eqb, lit≤}
 use borrow.Author.Tests.{eqb-true, eqb-false}
 use Rattle.le.specs.Number.{number}
 use Rattle.chunk.specs.declared.Entry.{Entry}
-use Rattle.chunk.specs.declared.Refusal.the-variants.{NoSize}
+use Rattle.chunk.specs.declared.Refusal.the-variants.{UnknownSize}
 use Rattle.chunk.specs.declared.Verdict.the-variants.{Refused}
-use Rattle.chunk.specs.Names.{DS64, JUNK, FMT, FACT, DATA, ONES}
+use Rattle.chunk.specs.Names.{DS64, JUNK, FMT, FACT, DATA}
+use Rattle.chunk.specs.Fields.{ONES}
 use Rattle.chunk.specs.Refusals.{given}
 use Rattle.chunk.specs.Tables.{count, find}
 use Rattle.chunk.specs.Walks.{Rule, past}
@@ -250,7 +251,7 @@ module _ (t : Target) (s : List ℕ) (h : Head) (j : Entry) (rest : List Entry) 
             own-size s h j rest k e l .0
             (sym (number-beside t old s 4 (e .place - 4) (own-beside s h j rest k t f e l n)) ∙ o)
 
-    stops : walk32 u ≡ record { rows = aheadOf DATA (ds64Row j ∷ rest); end = Refused NoSize }
+    stops : walk32 u ≡ record { rows = aheadOf DATA (ds64Row j ∷ rest); end = Refused UnknownSize }
     unfolding Sized ownField
     stops =
         let p = split DATA (ds64Row j ∷ rest) (omega (arith, renamed-chunked j rest (k .junk) (k .listed .chunked) .oneData)) in

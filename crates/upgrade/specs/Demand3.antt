@@ -10,10 +10,11 @@ use lib.Dec.{eqb}
 use Rattle.le.specs.Number.{Bytes, number}
 use Rattle.le.specs.Choice.{pick}
 use Rattle.chunk.specs.declared.Entry.{Entry}
-use Rattle.chunk.specs.declared.Refusal.the-variants.{NoSize, NoReserve}
+use Rattle.chunk.specs.declared.Refusal.the-variants.{UnknownSize, NoReserve}
 use Rattle.chunk.specs.declared.Verdict.the-variants.{Refused}
 use Rattle.chunk.specs.Refusals.{refused, given}
-use Rattle.chunk.specs.Names.{DS64, JUNK, DATA, FACT, ONES}
+use Rattle.chunk.specs.Names.{DS64, JUNK, DATA, FACT}
+use Rattle.chunk.specs.Fields.{ONES}
 use Rattle.chunk.specs.Tables.{find}
 use Rattle.form.specs.declared.Form as form
 use Rattle.form.specs.declared.Form.the-variants as form-variants
@@ -112,7 +113,7 @@ pub record Upgraded (t : Target) (s : List ℕ) (a : Scan) (u : List ℕ) : Type
   -- "and so is the sample count as document 01 defines it: the same number, or none both times"
   pub samples : samplesOf u ≡ samplesOf s
   -- "The 32-bit walk shows every chunk ahead of data and stops at data with 7."
-  pub walk : walk32 u ≡ record { rows = aheadOf DATA (again .rows); end = Refused NoSize }
+  pub walk : walk32 u ≡ record { rows = aheadOf DATA (again .rows); end = Refused UnknownSize }
 
 -- Of a RIFF file that the scan accepts, and RF64 or BW64 as target:
 pub record SecondHalf (t : Target) (s : List ℕ) (a : Scan) : Type 0 where

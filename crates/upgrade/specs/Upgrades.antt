@@ -8,7 +8,8 @@ use Rattle.le.specs.Choice.{pick}
 use Rattle.chunk.specs.declared.Entry.{Entry}
 use Rattle.chunk.specs.declared.Refusal.the-variants.{Already64, NoReserve}
 use Rattle.chunk.specs.Refusals.{Answer, refused, given, check, andThen}
-use Rattle.chunk.specs.Names.{RF64, BW64, DS64, JUNK, FACT, DATA, ONES}
+use Rattle.chunk.specs.Names.{RF64, BW64, DS64, JUNK, FACT, DATA}
+use Rattle.chunk.specs.Fields.{ONES}
 use Rattle.chunk.specs.Tables.{count, find}
 use Rattle.form.specs.Forms.{isWide, formSize}
 use Rattle.wave.specs.Scans.{Scan, scan}

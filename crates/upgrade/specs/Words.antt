@@ -6,7 +6,8 @@ use lib.ListN.{length}
 use Rattle.le.specs.Number.{number}
 use Rattle.chunk.specs.declared.Verdict.{Verdict}
 use Rattle.chunk.specs.Refusals.{Answer, refused, given, verdictOf}
-use Rattle.chunk.specs.Names.{DS64, ONES}
+use Rattle.chunk.specs.Names.{DS64}
+use Rattle.chunk.specs.Fields.{ONES}
 use Rattle.form.specs.declared.Form.the-variants.{Riff}
 use Rattle.wave.specs.declared.tally.Met.{Met}
 use Rattle.wave.specs.declared.tally.Met.the-variants.{Never, Once, More}

@@ -14,7 +14,7 @@ ghost use mathlib.Core.Path.{_≡_};
 ghost use mathlib.Core.List.{[], _∷_};
 ghost use Prim.Native.Nat.{_+_, _-_, _≤_};
 ghost use lib.ListN.{length};
-ghost use Rattle.chunk.specs.Names.{ONES};
+ghost use Rattle.chunk.specs.Fields.{ONES};
 ghost use Rattle.wave.specs.Tallies.{sizeOf};
 ghost use Rattle.upgrade.specs.Upgrades.{patch, patched, targetName};
 ghost use Rattle.upgrade.specs.Words.{Knows, Ready, Within, framesOf, thirdOf, factStore, ds64Stores, fieldStores, stores, UpgradeDone};
@@ -41,8 +41,8 @@ fn name_of(target: Target) -> u64
     ensures { λ r. ⌜ r ≡ targetName target ⌝ }
 {
     match target {
-        Target::Rf64 => Form::RF64,
-        Target::Bw64 => Form::BW64,
+        Target::Rf64 => Name::RF64,
+        Target::Bw64 => Name::BW64,
     }
 }
 
@@ -93,7 +93,7 @@ fn store_fact(file: &mut [u8], target: Target, fact: Met)
     match target {
         Target::Bw64 => {}
         Target::Rf64 => match fact {
-            Met::Once(place, _) => le::store4(file, place as usize, Name::ONES),
+            Met::Once(place, _) => le::store4(file, place as usize, chunk::ONES),
             Met::Never => {}
             Met::More => {}
         },
@@ -105,8 +105,8 @@ fn store_fields(file: &mut [u8], at: u64, name: u64)
     requires { ⌜ (8 ≤ length (now file)) × (at + 4 ≤ length (now file)) ⌝ }
     ensures { λ _. ⌜ now (file .exit) ≡ patched (fieldStores at name) (now (file .entry)) ⌝ }
 {
-    le::store4(file, at as usize, Name::ONES);
-    le::store4(file, 4, Name::ONES);
+    le::store4(file, at as usize, chunk::ONES);
+    le::store4(file, 4, chunk::ONES);
     le::store4(file, 0, name);
 }
 

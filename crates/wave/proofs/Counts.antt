@@ -9,7 +9,8 @@ use borrow.Author.Tests.{eq-eqb, ne-eqb}
 use Rattle.le.specs.Number.{number}
 use Rattle.chunk.specs.Refusals.{Answer, refused, given}
 use Rattle.chunk.specs.declared.Refusal.{Refusal}
-use Rattle.chunk.specs.Names.{FACT, ONES}
+use Rattle.chunk.specs.Names.{FACT}
+use Rattle.chunk.specs.Fields.{ONES}
 use Rattle.chunk.specs.Tables.{count, find}
 use Rattle.chunk.proofs.Checks.{pick-true, pick-false}
 use Rattle.form.specs.declared.Form.the-variants.{Riff, Rf64, Bw64}

@@ -12,11 +12,12 @@ use Rattle.le.specs.Number.{number}
 use Rattle.le.specs.Choice.{pick}
 use Rattle.chunk.specs.declared.Entry.{Entry}
 use Rattle.chunk.specs.declared.Refusal.{Refusal}
-use Rattle.chunk.specs.declared.Refusal.the-variants.{NoRoom}
+use Rattle.chunk.specs.declared.Refusal.the-variants.{ShortOutput}
 use Rattle.chunk.specs.declared.Verdict.{Verdict}
 use Rattle.chunk.specs.declared.Verdict.the-variants.{Accepted, Refused}
 use Rattle.chunk.specs.Refusals.{Answer, refused, given, check, verdictOf}
-use Rattle.chunk.specs.Names.{FACT, ONES, WAVE}
+use Rattle.chunk.specs.Names.{FACT, WAVE}
+use Rattle.chunk.specs.Fields.{ONES}
 use Rattle.chunk.specs.Tables.{count, find, allWords, tabled, tableOf}
 use Rattle.chunk.specs.Walks.{Walked, walk, ownSize, past}
 use Rattle.chunk.proofs.Checks.{pick-true, pick-false, check-given, given-inj}
@@ -67,7 +68,7 @@ set-first (x ∷ w) h = ap (λ (k : ℕ). 0 ∷ drop k (x ∷ w)) (let p : suc 0
 -- ---- the scan
 
 module _ (s w : List ℕ) where
-  pub scan-short : length w < 257 → ScanDone s w (Refused NoRoom) w
+  pub scan-short : length w < 257 → ScanDone s w (Refused ShortOutput) w
   scan-short h =
       let e = lt-leb 257 (length w) h in
       record { verdict = sym (pick-false _ _ _ e); words = sym (pick-false _ _ _ e) }
@@ -127,7 +128,7 @@ open32-told s e =
     record { long = leb-true 12 (length s) (c1 .0); starts = v .1 ∙ sym (c3 .1) }
 
 module _ (s w : List ℕ) where
-  pub walk-short : length w < 257 → WalkDone s w (Refused NoRoom) w
+  pub walk-short : length w < 257 → WalkDone s w (Refused ShortOutput) w
   walk-short h =
       let e = lt-leb 257 (length w) h in
       record { verdict = sym (pick-false _ _ _ e); words = sym (pick-false _ _ _ e) }

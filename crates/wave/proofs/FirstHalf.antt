@@ -12,10 +12,10 @@ use lib.Dec.{eqb}
 use borrow.Author.Tests.{eq-eqb, ne-eqb, eqb-true, eqb-false}
 use Rattle.le.specs.Number.{number}
 use Rattle.chunk.specs.declared.Entry.{Entry}
-use Rattle.chunk.specs.declared.Refusal.the-variants.{NoSize}
+use Rattle.chunk.specs.declared.Refusal.the-variants.{UnknownSize}
 use Rattle.chunk.specs.declared.Verdict.the-variants.{Accepted, Refused}
 use Rattle.chunk.specs.Refusals.{Answer, given}
-use Rattle.chunk.specs.Names.{ONES}
+use Rattle.chunk.specs.Fields.{ONES}
 use Rattle.chunk.specs.Walks.{Rule, past, Walked, walk, ownSize}
 use Rattle.chunk.proofs.Checks.{pick-true, pick-false}
 use Rattle.chunk.proofs.Laid.{Row, Laid, done, next, row-fits, step-end, step-row, step-refused, walk-stop, walk-chunk, own-ones, own-given}
@@ -36,19 +36,19 @@ abbrev after : Entry → Walked → Walked
 after e w = record { rows = e ∷ w .rows; end = w .end }
 
 shown-ones : (s : List ℕ) (e : Entry) (es : List Entry) → ownField s e ≡ ONES
-    → shown s (e ∷ es) ≡ record { rows = []; end = Refused NoSize }
+    → shown s (e ∷ es) ≡ record { rows = []; end = Refused UnknownSize }
 unfolding ahead stop
 shown-ones s e es h =
     let t = eqb (ownField s e) ONES in
     let q : t ≡ true = eq-eqb (ownField s e) ONES h in
-    λ i. record { rows = pick-true t [] (e ∷ ahead s es) q i; end = pick-true t (Refused NoSize) (stop s es) q i }
+    λ i. record { rows = pick-true t [] (e ∷ ahead s es) q i; end = pick-true t (Refused UnknownSize) (stop s es) q i }
 
 shown-sized : (s : List ℕ) (e : Entry) (es : List Entry) → (ownField s e ≡ ONES → ⊥) → shown s (e ∷ es) ≡ after e (shown s es)
 unfolding ahead stop
 shown-sized s e es h =
     let t = eqb (ownField s e) ONES in
     let q : t ≡ false = ne-eqb (ownField s e) ONES h in
-    λ i. record { rows = pick-false t [] (e ∷ ahead s es) q i; end = pick-false t (Refused NoSize) (stop s es) q i }
+    λ i. record { rows = pick-false t [] (e ∷ ahead s es) q i; end = pick-false t (Refused UnknownSize) (stop s es) q i }
 
 -- ---- the walk over laid rows
 
@@ -62,10 +62,10 @@ own-at {s = s} {at} {e} r = ap (λ (p : ℕ). number 4 p s) (omega (arith, r .pl
 
 -- the header's answer to the 32-bit walk
 row-ones : (rule : Rule) (s : List ℕ) (room at : ℕ) (e : Entry) → Row rule s at e → ownField s e ≡ ONES
-    → walk ownSize s (suc room) at ≡ record { rows = []; end = Refused NoSize }
+    → walk ownSize s (suc room) at ≡ record { rows = []; end = Refused UnknownSize }
 row-ones rule s room at e r h =
-    walk-stop ownSize s (suc room) at (Refused NoSize)
-    (step-refused ownSize s room at NoSize (row-fits r)
+    walk-stop ownSize s (suc room) at (Refused UnknownSize)
+    (step-refused ownSize s room at UnknownSize (row-fits r)
     (own-ones at (number 4 at s) (number 4 (at + 4) s) (sym (own-at r) ∙ h)))
 
 row-own : (rule : Rule) → Plain rule → (s : List ℕ) (at : ℕ) (e : Entry) → Row rule s at e → (ownField s e ≡ ONES → ⊥)
@@ -103,7 +103,7 @@ laid-own rule plain {s} {at} (suc room) (next {e = e} {es = es} r l) k =
 -- ---- the customer's two sentences
 
 shown-split : (s : List ℕ) (xs : List Entry) (e : Entry) (ys : List Entry) → Sized s xs → ownField s e ≡ ONES
-    → shown s (xs ++ e ∷ ys) ≡ record { rows = xs; end = Refused NoSize }
+    → shown s (xs ++ e ∷ ys) ≡ record { rows = xs; end = Refused UnknownSize }
 unfolding Sized
 shown-split s [] e ys h o = shown-ones s e ys o
 shown-split s (x ∷ xs) e ys h o =

@@ -11,11 +11,12 @@ use borrow.Author.Tests.{eq-eqb, ne-eqb}
 use Rattle.le.specs.Number.{number, field}
 use Rattle.chunk.specs.declared.Entry.{Entry}
 use Rattle.chunk.specs.declared.Refusal.{Refusal}
-use Rattle.chunk.specs.declared.Refusal.the-variants.{Chunks, Ragged}
+use Rattle.chunk.specs.declared.Refusal.the-variants.{BadChunkSet, RaggedAudio}
 use Rattle.chunk.specs.declared.Verdict.{Verdict}
 use Rattle.chunk.specs.declared.Verdict.the-variants.{Accepted, Refused}
 use Rattle.chunk.specs.Refusals.{Answer, refused, given, check, andThen}
-use Rattle.chunk.specs.Names.{FMT, DATA, ONES}
+use Rattle.chunk.specs.Names.{FMT, DATA}
+use Rattle.chunk.specs.Fields.{ONES}
 use Rattle.chunk.specs.Tables.{count, find}
 use Rattle.chunk.specs.Walks.{Walked, past}
 use Rattle.chunk.proofs.Checks.{check-true, check-false, andThen-at, andThen-refused, pick-true, pick-false, given-inj}
@@ -75,7 +76,7 @@ module _ (h : Head) (t : Tally) (n : ℕ) (s : List ℕ) where
   abbrev fmtPart : List ℕ
   fmtPart = field (sizeOf (t .fmt)) (placeOf (t .fmt)) s
 
-  pub judge-chunks : tallyGood t ≡ false → judgeOf h t n s ≡ survey.Refused Chunks
+  pub judge-chunks : tallyGood t ≡ false → judgeOf h t n s ≡ survey.Refused BadChunkSet
   unfolding judgeOf
   judge-chunks e = pick-false _ _ _ e
 
@@ -84,7 +85,7 @@ module _ (h : Head) (t : Tally) (n : ℕ) (s : List ℕ) where
   judge-fmt r e q = pick-true _ _ _ e ∙ ap (judgedAs h t n) (andThen-refused _ _ r q)
 
   pub judge-ragged : (f : Format) → tallyGood t ≡ true → formatIn fmtPart ≡ given f → (sizeOf (t .audio) % f .block ≡ 0 → ⊥)
-      → judgeOf h t n s ≡ survey.Refused Ragged
+      → judgeOf h t n s ≡ survey.Refused RaggedAudio
   unfolding judgeOf judgedAs judged wholeBlocks
   judge-ragged f e q k = pick-true _ _ _ e ∙ ap (judgedAs h t n) (andThen-at _ _ f q ∙ check-false _ _ _ (ne-eqb _ _ k))
 
@@ -113,11 +114,11 @@ scan-judge s h e q = go (chunksGood rows) refl
     rows : List Entry
     rows = headers h s .rows
 
-    listed : (b : Bool) → chunksGood rows ≡ b → listing s ≡ check b Chunks (given (record { head = h; rows = rows }))
+    listed : (b : Bool) → chunksGood rows ≡ b → listing s ≡ check b BadChunkSet (given (record { head = h; rows = rows }))
     listed b g =
         andThen-at _ _ h e
         ∙ andThen-at _ _ rows (ap (λ (v : Verdict). endedAs v rows) q)
-        ∙ ap (λ (c : Bool). check c Chunks (given (record { head = h; rows = rows }))) g
+        ∙ ap (λ (c : Bool). check c BadChunkSet (given (record { head = h; rows = rows }))) g
 
     same : (x : Answer Format)
         → judgedAs h (tallyOf rows) (length rows) x ≡ surveyOf (andThen x λ f. given (record { head = h; rows = rows; format = f }))
@@ -127,14 +128,14 @@ scan-judge s h e q = go (chunksGood rows) refl
     go : (b : Bool) → chunksGood rows ≡ b → judgeOf h (tallyOf rows) (length rows) s ≡ surveyOf (scan s)
     go false g =
         pick-false _ _ _ (tally-good rows ∙ g)
-        ∙ sym (ap surveyOf (andThen-refused (listing s) _ Chunks (listed false g ∙ check-false false Chunks (given (record { head = h; rows = rows })) refl)))
+        ∙ sym (ap surveyOf (andThen-refused (listing s) _ BadChunkSet (listed false g ∙ check-false false BadChunkSet (given (record { head = h; rows = rows })) refl)))
     go true g =
         let c = good-chunked rows g in
         pick-true _ _ _ (tally-good rows ∙ g)
         ∙ ap (judgedAs h (tallyOf rows) (length rows))
         (ap₂ (λ (m d : Met). judged (field (sizeOf m) (placeOf m) s) (sizeOf d)) (met-one FMT rows (c .oneFmt)) (met-one DATA rows (c .oneData)))
         ∙ same (judged (payload (find FMT rows) s) (find DATA rows .size))
-        ∙ sym (ap surveyOf (andThen-at (listing s) _ (record { head = h; rows = rows }) (listed true g ∙ check-true true Chunks (given (record { head = h; rows = rows })) refl)))
+        ∙ sym (ap surveyOf (andThen-at (listing s) _ (record { head = h; rows = rows }) (listed true g ∙ check-true true BadChunkSet (given (record { head = h; rows = rows })) refl)))
 
 -- the rows of an accepted file are those of its walk
 pub scan-rows : (s : List ℕ) (h : Head) (a : Scan) → headOf s ≡ given h → scan s ≡ given a → a .rows ≡ headers h s .rows

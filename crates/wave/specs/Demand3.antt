@@ -9,10 +9,11 @@ use lib.Dec.{eqb}
 use Rattle.le.specs.Number.{number}
 use Rattle.le.specs.Choice.{pick}
 use Rattle.chunk.specs.declared.Entry.{Entry}
-use Rattle.chunk.specs.declared.Refusal.the-variants.{NoSize}
+use Rattle.chunk.specs.declared.Refusal.the-variants.{UnknownSize}
 use Rattle.chunk.specs.declared.Verdict.{Verdict}
 use Rattle.chunk.specs.declared.Verdict.the-variants.{Accepted, Refused}
-use Rattle.chunk.specs.Names.{DS64, FMT, DATA, ONES}
+use Rattle.chunk.specs.Names.{DS64, FMT, DATA}
+use Rattle.chunk.specs.Fields.{ONES}
 use Rattle.chunk.specs.Tables.{count, find}
 use Rattle.chunk.specs.Walks.{past}
 use Rattle.form.specs.Forms.{isWide}
@@ -34,7 +35,7 @@ ahead s (e ∷ es) = pick (eqb (ownField s e) ONES) [] (e ∷ ahead s es)
 unfoldable pub stop : List ℕ → List Entry → Verdict
 unfolding pick
 stop s [] = Accepted
-stop s (e ∷ es) = pick (eqb (ownField s e) ONES) (Refused NoSize) (stop s es)
+stop s (e ∷ es) = pick (eqb (ownField s e) ONES) (Refused UnknownSize) (stop s es)
 
 -- none of these rows has an all-ones field
 unfoldable pub Sized : List ℕ → List Entry → Type 0
@@ -45,7 +46,7 @@ pub record FirstHalf (s : List ℕ) (a : Scan) : Type 0 where
   -- "It shows exactly the chunks ahead of the first chunk whose own size field is all ones, each as the scan's table shows
   -- it and in that order, then stops there with refusal 7."
   pub stops : (xs : List Entry) (e : Entry) (ys : List Entry) → a .rows ≡ xs ++ e ∷ ys → Sized s xs → ownField s e ≡ ONES
-      → walk32 s ≡ record { rows = xs; end = Refused NoSize }
+      → walk32 s ≡ record { rows = xs; end = Refused UnknownSize }
   -- "With no such chunk it shows the whole table and ends with no refusal."
   pub whole : Sized s (a .rows) → walk32 s ≡ record { rows = a .rows; end = Accepted }
   -- both at once, as one equation

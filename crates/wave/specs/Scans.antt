@@ -8,11 +8,12 @@ use Rattle.le.specs.Number.{number, field}
 use Rattle.le.specs.Choice.{pick, every}
 use Rattle.chunk.specs.declared.Entry.{Entry}
 use Rattle.chunk.specs.declared.Refusal.{Refusal}
-use Rattle.chunk.specs.declared.Refusal.the-variants.{Chunks, Ragged}
+use Rattle.chunk.specs.declared.Refusal.the-variants.{BadChunkSet, RaggedAudio}
 use Rattle.chunk.specs.declared.Verdict.{Verdict}
 use Rattle.chunk.specs.declared.Verdict.the-variants.{Accepted, Refused}
 use Rattle.chunk.specs.Refusals.{Answer, refused, given, check, andThen}
-use Rattle.chunk.specs.Names.{FMT, DATA, FACT, BEXT, CHNA, ONES}
+use Rattle.chunk.specs.Names.{FMT, DATA, FACT, BEXT, CHNA}
+use Rattle.chunk.specs.Fields.{ONES}
 use Rattle.chunk.specs.Tables.{count, find}
 use Rattle.chunk.specs.Walks.{Walked, walk, ownSize}
 use Rattle.form.specs.declared.Form.{Form}
@@ -61,7 +62,7 @@ unfolding andThen check
 listing s =
     andThen (headOf s) λ h.
     andThen (endedAs (headers h s .end) (headers h s .rows)) λ rows.
-    check (chunksGood rows) Chunks
+    check (chunksGood rows) BadChunkSet
     (given (record { head = h; rows = rows }))
 
 -- ---- the judgement: checks 11 and 12
@@ -73,7 +74,7 @@ payload e s = field (e .size) (e .place) s
 -- check 12: "The data size is a whole number of blocks"
 unfoldable pub wholeBlocks : ℕ → Format → Answer Format
 unfolding check
-wholeBlocks size f = check (eqb (size % f .block) 0) Ragged (given f)
+wholeBlocks size f = check (eqb (size % f .block) 0) RaggedAudio (given f)
 
 -- over the fmt payload and the data size
 unfoldable pub judged : List ℕ → ℕ → Answer Format

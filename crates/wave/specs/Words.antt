@@ -7,7 +7,7 @@ use lib.ListN.{length}
 use lib.Dec.{leb}
 use Rattle.le.specs.Number.{number, field}
 use Rattle.le.specs.Choice.{pick}
-use Rattle.chunk.specs.declared.Refusal.the-variants.{Chunks, NoRoom}
+use Rattle.chunk.specs.declared.Refusal.the-variants.{BadChunkSet, ShortOutput}
 use Rattle.chunk.specs.declared.Verdict.{Verdict}
 use Rattle.chunk.specs.declared.Verdict.the-variants as verdict
 use Rattle.chunk.specs.Refusals.{Answer, refused, given, verdictOf}
@@ -35,7 +35,7 @@ scanTable s = record { table = tableOf (rowsOf (scan s)); verdict = verdictOf (s
 -- The scan into words: 15 where they are fewer than a table has, and then they stay; else the scan's verdict, and the
 -- words of its table, which is empty where it refuses.
 pub record ScanDone (s w : List ℕ) (r : Verdict) (w' : List ℕ) : Type 0 where
-  pub verdict : r ≡ pick (leb 257 (length w)) (verdictOf (scan s)) (verdict.Refused NoRoom)
+  pub verdict : r ≡ pick (leb 257 (length w)) (verdictOf (scan s)) (verdict.Refused ShortOutput)
   pub words : w' ≡ pick (leb 257 (length w)) (tabled (rowsOf (scan s)) w) w
 
 -- the 32-bit walk by value
@@ -44,7 +44,7 @@ walkTable s = record { table = tableOf (walk32 s .rows); verdict = walk32 s .end
 
 -- the 32-bit walk into words, which keeps the chunks ahead of its stop
 pub record WalkDone (s w : List ℕ) (r : Verdict) (w' : List ℕ) : Type 0 where
-  pub verdict : r ≡ pick (leb 257 (length w)) (walk32 s .end) (verdict.Refused NoRoom)
+  pub verdict : r ≡ pick (leb 257 (length w)) (walk32 s .end) (verdict.Refused ShortOutput)
   pub words : w' ≡ pick (leb 257 (length w)) (tabled (walk32 s .rows) w) w
 
 -- ---- the parts that the code makes them of
@@ -73,7 +73,7 @@ unfoldable pub judgeOf : Head → Tally → ℕ → List ℕ → Survey
 unfolding pick
 judgeOf h t n s =
     pick (tallyGood t) (judgedAs h t n (judged (field (sizeOf (t .fmt)) (placeOf (t .fmt)) s) (sizeOf (t .audio))))
-    (survey.Refused Chunks)
+    (survey.Refused BadChunkSet)
 
 -- what is known of an accepted file besides its table
 abbrev pub knownOf : Scan → Known

@@ -36,7 +36,7 @@ pub fn scan_into(file: &[u8], words: &mut [u64]) -> Verdict
     ensures { λ r. ⌜ ScanDone (now (file .entry)) (now (words .entry)) r (now (words .exit)) ⌝ }
 {
     if words.len() < Table::WORDS {
-        return Verdict::Refused(Refusal::NoRoom);
+        return Verdict::Refused(Refusal::ShortOutput);
     }
     match listing::examine(file) {
         Survey::Refused(r) => {
@@ -67,7 +67,7 @@ pub fn walk32_into(file: &[u8], words: &mut [u64]) -> Verdict
     ensures { λ r. ⌜ WalkDone (now (file .entry)) (now (words .entry)) r (now (words .exit)) ⌝ }
 {
     if words.len() < Table::WORDS {
-        return Verdict::Refused(Refusal::NoRoom);
+        return Verdict::Refused(Refusal::ShortOutput);
     }
     match form::opening::open32(file) {
         Verdict::Refused(r) => {

@@ -109,7 +109,7 @@ fn judge(file: &[u8], head: Head, l: Listed) -> Survey
 {
     let tally = l.tally;
     if !super::tally::good(tally) {
-        return Survey::Refused(Refusal::Chunks);
+        return Survey::Refused(Refusal::BadChunkSet);
     }
     let fmt = tally.fmt;
     let audio = tally.audio;
@@ -121,7 +121,7 @@ fn judge(file: &[u8], head: Head, l: Listed) -> Survey
         Reading::Refused(r) => Survey::Refused(r),
         Reading::Record(format) => {
             if bytes % format.block != 0 {
-                return Survey::Refused(Refusal::Ragged);
+                return Survey::Refused(Refusal::RaggedAudio);
             }
             Survey::Accepted(Known {
                 head,
@@ -156,7 +156,7 @@ pub fn fact_count(file: &[u8], head: Head, place: u64) -> Samples
     ensures { λ r. ⌜ r ≡ countAt head place (now (file .entry)) ⌝ }
 {
     let own = le::read4(file, place as usize);
-    if own != Name::ONES {
+    if own != chunk::ONES {
         return Samples::Count(own);
     }
     let form = head.form;

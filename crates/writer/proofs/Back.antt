@@ -11,10 +11,11 @@ use lib.Dec.{eqb, leb, lit<}
 use borrow.Author.Tests.{eq-eqb, leb-true}
 use Rattle.le.specs.Number.{field}
 use Rattle.chunk.specs.declared.Entry.{Entry}
-use Rattle.chunk.specs.declared.Refusal.the-variants.{Ragged}
+use Rattle.chunk.specs.declared.Refusal.the-variants.{RaggedAudio}
 use Rattle.chunk.specs.declared.Verdict.the-variants.{Accepted}
 use Rattle.chunk.specs.Refusals.{Answer, given}
-use Rattle.chunk.specs.Names.{FMT, DATA, BEXT, CHNA, DS64, ONES}
+use Rattle.chunk.specs.Names.{FMT, DATA, BEXT, CHNA, DS64}
+use Rattle.chunk.specs.Fields.{ONES}
 use Rattle.chunk.specs.Tables.{count, find}
 use Rattle.chunk.specs.Walks.{Rule, ownSize}
 use Rattle.chunk.proofs.Checks.{given-inj, check-given, check-true, andThen-at, and-true, or-false}
@@ -208,7 +209,7 @@ module _ (form : Form) (f : Format) (b c a : List ℕ) (w : Fine form f b c a) (
   judged-is =
       ap₂ judged fmt-payload (ap (λ (e : Entry). e .size) (facts-are .audio))
       ∙ andThen-at (formatIn (formatBytes f)) (λ (g : Format). wholeBlocks (length a) g) f fmt-read
-      ∙ check-true (eqb (length a % f .block) 0) Ragged (given f) (eq-eqb (length a % f .block) 0 (w .input .blocks))
+      ∙ check-true (eqb (length a % f .block) 0) RaggedAudio (given f) (eq-eqb (length a % f .block) 0 (w .input .blocks))
 
   abbrev pub scan-is : Scan
   scan-is = record { head = head; rows = table; format = f }

@@ -10,7 +10,8 @@ use lib.ListN.{length, drop, replicate}
 use lib.Dec.{lit<}
 use Rattle.le.specs.Number.{bytes, number}
 use Rattle.le.proofs.Laws.{bytes-length}
-use Rattle.chunk.specs.Names.{WAVE, DS64, JUNK, DATA, ONES}
+use Rattle.chunk.specs.Names.{WAVE, DS64, JUNK, DATA}
+use Rattle.chunk.specs.Fields.{ONES}
 use Rattle.chunk.specs.Refusals.{given}
 use Rattle.chunk.proofs.Checks.{true-false}
 use Rattle.form.specs.declared.Form.{Form}

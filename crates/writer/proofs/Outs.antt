@@ -10,7 +10,7 @@ use lib.Seq.{sets}
 use lib.Dec.{leb}
 use borrow.Author.Tests.{le-leb, lt-leb}
 use Rattle.chunk.specs.declared.Refusal.{Refusal}
-use Rattle.chunk.specs.declared.Refusal.the-variants.{BadRecord, TooLarge, NoRoom}
+use Rattle.chunk.specs.declared.Refusal.the-variants.{BadRecord, TooLarge, ShortOutput}
 use Rattle.chunk.specs.declared.Written.the-variants as written
 use Rattle.chunk.specs.Refusals.{Answer, refused, given}
 use Rattle.chunk.specs.Names.{FMT, BEXT, CHNA, DATA}
@@ -98,12 +98,12 @@ module _ (form : Form) (f : Format) (b c a out : List ℕ) where
         long : length (fileBytes form f b c a) ≡ fileSize (length b) (length c) (length a)
         long = let g = good f b c a ok in file-length form f b c a (g .fmt) (g .sixteen)
 
-        pub lacks-room : length out < fileSize (length b) (length c) (length a) → Writes form f b c a out out (written.Refused NoRoom)
+        pub lacks-room : length out < fileSize (length b) (length c) (length a) → Writes form f b c a out out (written.Refused ShortOutput)
         unfolding fitting writtenOf outputOf
         lacks-room h =
-            answered (refused NoRoom)
+            answered (refused ShortOutput)
             (ap (fitting out) out-is
-            ∙ check-false (leb (length (fileBytes form f b c a)) (length out)) NoRoom _ (lt-leb _ (length out) (omega (arith, long))))
+            ∙ check-false (leb (length (fileBytes form f b c a)) (length out)) ShortOutput _ (lt-leb _ (length out) (omega (arith, long))))
             out refl
 
         pub written-all : (exit : List ℕ) (n : ℕ) → n ≡ fileSize (length b) (length c) (length a) → n ≤ length out
@@ -112,7 +112,7 @@ module _ (form : Form) (f : Format) (b c a out : List ℕ) where
         written-all exit n e h x =
             let bs : List ℕ = fileBytes form f b c a in
             let fit : fitting out (fileOut form f b c a) ≡ given bs =
-            ap (fitting out) out-is ∙ check-true (leb (length bs) (length out)) NoRoom _ (le-leb (length bs) (length out) (omega (arith, long))) in
+            ap (fitting out) out-is ∙ check-true (leb (length bs) (length out)) ShortOutput _ (le-leb (length bs) (length out) (omega (arith, long))) in
             record {
               answers = ap written.Bytes (e ∙ sym long) ∙ sym (ap writtenOf fit);
               leaves = x ∙ puts-front out bs (omega (arith, long)) ∙ sym (ap (outputOf out) fit);

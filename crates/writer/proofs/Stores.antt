@@ -13,7 +13,7 @@ use lib.Seq.{sets, sets-eq, length-sets, take-length, drop-drop}
 use Rattle.le.specs.Number.{bytes, stored}
 use Rattle.le.proofs.Laws.{bytes-length, stored-then}
 use Rattle.chunk.specs.Names.{WAVE}
-use Rattle.chunk.specs.declared.Refusal.the-variants.{NoRoom}
+use Rattle.chunk.specs.declared.Refusal.the-variants.{ShortOutput}
 use Rattle.chunk.specs.Refusals.{Answer, given}
 use Rattle.chunk.proofs.Checks.{check-true}
 use Rattle.chunk.specs.Writes.{fitting, outputOf}
@@ -98,7 +98,7 @@ pub format-put : (f : Format) (part : List ℕ) → writable f ≡ true → leng
 unfolding outputOf fitting
 format-put f part can long n =
     ap (λ (x : Answer (List ℕ)). outputOf part (fitting part x)) (out-of f can)
-    ∙ ap (outputOf part) (check-true (leb (length (formatBytes f)) (length part)) NoRoom (given (formatBytes f)) (le-leb (length (formatBytes f)) (length part) (omega arith)))
+    ∙ ap (outputOf part) (check-true (leb (length (formatBytes f)) (length part)) ShortOutput (given (formatBytes f)) (le-leb (length (formatBytes f)) (length part) (omega arith)))
     ∙ ap (λ (l : List ℕ). formatBytes f ++ l) (drop-of-length-le part {i = length (formatBytes f)} (omega arith))
     ∙ append-nil (formatBytes f)
 

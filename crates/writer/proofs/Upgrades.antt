@@ -14,7 +14,8 @@ use borrow.Author.Tests.{le-leb}
 use Rattle.le.specs.Number.{bytes, number, stored}
 use Rattle.le.proofs.Laws.{bytes-length, stored-length, stored-split}
 use Rattle.chunk.specs.declared.Entry.{Entry}
-use Rattle.chunk.specs.Names.{FMT, DATA, BEXT, CHNA, DS64, ONES}
+use Rattle.chunk.specs.Names.{FMT, DATA, BEXT, CHNA, DS64}
+use Rattle.chunk.specs.Fields.{ONES}
 use Rattle.chunk.specs.Refusals.{given}
 use Rattle.chunk.specs.Tables.{find}
 use Rattle.chunk.proofs.Checks.{check-true, pick-false}

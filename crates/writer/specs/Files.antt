@@ -12,7 +12,8 @@ use Rattle.chunk.specs.declared.Refusal.the-variants.{BadRecord, TooLarge}
 use Rattle.chunk.specs.declared.Written.{Written}
 use Rattle.chunk.specs.Refusals.{Answer, refused, given, check}
 use Rattle.chunk.specs.Writes.{fitting, writtenOf, outputOf}
-use Rattle.chunk.specs.Names.{WAVE, DS64, JUNK, FMT, DATA, BEXT, CHNA, ONES}
+use Rattle.chunk.specs.Names.{WAVE, DS64, JUNK, FMT, DATA, BEXT, CHNA}
+use Rattle.chunk.specs.Fields.{ONES}
 use Rattle.form.specs.declared.Form.{Form}
 use Rattle.form.specs.declared.Form.the-variants.{Riff, Rf64, Bw64}
 use Rattle.form.specs.Forms.{nameOf, isWide}

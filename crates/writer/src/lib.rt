@@ -117,8 +117,8 @@ fn own_field(form: Form, size: u64) -> u64
 {
     match form {
         Form::Riff => size,
-        Form::Rf64 => Name::ONES,
-        Form::Bw64 => Name::ONES,
+        Form::Rf64 => chunk::ONES,
+        Form::Bw64 => chunk::ONES,
     }
 }
 
@@ -211,7 +211,7 @@ fn put_first(name: u64, own: u64, first: u64, size: u64, audio: u64, third: u64,
 {
     le::store4(out, 0, name);
     le::store4(out, 4, own);
-    le::store4(out, 8, Form::WAVE);
+    le::store4(out, 8, Name::WAVE);
     le::store4(out, 12, first);
     le::store4(out, 16, 28);
     le::store8(out, 20, size);
@@ -226,9 +226,17 @@ fn put_opening(form: Form, size: u64, audio: u64, frames: u64, out: &mut [u8])
     ensures { λ _. ⌜ now (out .exit) ≡ sets (now (out .entry)) 0 (openingBytes form size audio frames) ⌝ }
 {
     match form {
-        Form::Riff => put_first(Form::RIFF, size, Name::JUNK, 0, 0, 0, out),
-        Form::Rf64 => put_first(Form::RF64, Name::ONES, Name::DS64, size, audio, frames, out),
-        Form::Bw64 => put_first(Form::BW64, Name::ONES, Name::DS64, size, audio, 0, out),
+        Form::Riff => put_first(Name::RIFF, size, Name::JUNK, 0, 0, 0, out),
+        Form::Rf64 => put_first(
+            Name::RF64,
+            chunk::ONES,
+            Name::DS64,
+            size,
+            audio,
+            frames,
+            out,
+        ),
+        Form::Bw64 => put_first(Name::BW64, chunk::ONES, Name::DS64, size, audio, 0, out),
     }
 }
 
@@ -276,7 +284,7 @@ pub fn write(
         return Written::Refused(Refusal::TooLarge);
     }
     if (out.len() as u64) < size {
-        return Written::Refused(Refusal::NoRoom);
+        return Written::Refused(Refusal::ShortOutput);
     }
     put_file(form, size - 8, format, bext, chna, audio, out);
     Written::Bytes(size)

@@ -2,7 +2,7 @@
 -- Assumes nothing.
 use mathlib.Core.Path.{sym, _∙_, ap}
 use Rattle.le.specs.Number.{stored}
-use Rattle.chunk.specs.Names.{ONES}
+use Rattle.chunk.specs.Fields.{ONES}
 use Rattle.upgrade.proofs.Makes.{fields-made}
 use borrow.Author.Needs.{needs}
 use Rattle.upgrade.proofs.store_fields.Statement.{statement}
