@@ -1,38 +1,321 @@
 // Runs the readers and writers of fmt, bext and chna on the payloads that its input describes.
 //
-// The input is a script (script.rt says how a payload is put together). = keeps the bytes, ! takes the kept ones back. nf
-// and nb read fmt and bext from the first n bytes, and nc chna, with the place as the channel count; each then writes what
-// it read. w writes the fmt record whose fields stand as numbers of 8 bytes, and reads it back; nd writes a bext with a
-// description of n bytes, and the date and time that stand in their places. nz reads chna from n zeros.
-// What is expected stands in the file stdout, worked out from document 01.
-mod ask;
-mod script;
-
+// The input is a script (the crate script says how a payload is put together). nf and nb read fmt and bext from the first n
+// bytes, and nc chna, with the place as the channel count; each then writes what it read. w writes the fmt record whose
+// fields stand as numbers of 8 bytes, and reads it back; nd writes a bext with a description of n bytes, and the date and
+// time that stand in their places. nz reads chna from n zeros.
+//
+// Each prints 0 and the record's fields, or the refusal; then how many bytes are written and whether they are those that
+// were read, and the answer to an output that is too short. What is expected stands in the file stdout, worked out from
+// document 01.
+ghost use Prim.Native.Nat.{_≤_};
+ghost use lib.ListN.{length};
+use bext::Bext;
+use chunk::Refusal;
+use chunk::Written;
+use fmt::Format;
+use script::Sign;
 use script::State;
 
-// Copies bytes over others.
-fn copy(from: &[u8], to: &mut [u8]) {
-    if to.len() < from.len() {
-        return;
-    }
-    bytes::copy(from, to);
+fn text(s: &[u8]) {
+    io::write_all(1, s);
 }
 
-// What a command besides those of the script does.
-fn act(s: State, b: u8, file: &mut [u8], kept: &mut [u8]) {
-    if s.mode != 0 {
-        return;
+// A number after a space.
+fn next(n: u64) {
+    text(b" ");
+    io::print_decimal(1, n);
+}
+
+fn refused(r: Refusal) {
+    next(r.number() as u64);
+}
+
+// The first n bytes, or as many as there are.
+fn first(s: &[u8], n: usize) -> &[u8] {
+    if s.len() < n {
+        return s;
     }
-    let n = s.n as usize;
+    &s[..n]
+}
+
+// The n bytes at a place, or as many as there are.
+fn part(s: &[u8], at: usize, n: usize) -> &[u8] {
+    if s.len() < at {
+        return s;
+    }
+    first(&s[at..], n)
+}
+
+// What a writer answers. Gives the number of bytes that it wrote, 0 where it refused.
+fn answer(w: Written) -> usize {
+    match w {
+        Written::Refused(r) => {
+            refused(r);
+            0
+        }
+        Written::Bytes(k) => {
+            next(k);
+            k as usize
+        }
+    }
+}
+
+// Whether two runs of bytes are the same.
+fn compared(a: &[u8], b: &[u8]) {
+    if check::same(a, b) {
+        text(b" same");
+    } else {
+        text(b" changed");
+    }
+}
+
+// What a writer answers, and whether it wrote the bytes that were read.
+fn written(w: Written, out: &[u8], payload: &[u8]) {
+    text(b"; written");
+    let n = answer(w);
+    if 0 < n {
+        compared(first(out, n), payload);
+    }
+}
+
+// What a writer answers to an output that is too short.
+fn short(w: Written) {
+    text(b", short");
+    answer(w);
+}
+
+// The fields of fmt.
+fn format(r: Format) {
+    text(b" 0");
+    next(r.size);
+    next(r.tag);
+    next(r.channels);
+    next(r.rate);
+    next(r.byterate);
+    next(r.block);
+    next(r.bits);
+    next(r.valid);
+    next(r.mask);
+}
+
+// Writes the fmt that was read from a payload.
+fn write_fmt(r: Format, payload: &[u8]) {
+    let mut out = io::buffer();
+    let w = fmt::write(r, &mut out);
+    written(w, &out, payload);
+    let mut less = [0u8; 15];
+    short(fmt::write(r, &mut less));
+}
+
+// Reads a payload as fmt, and writes the record.
+fn fmt(payload: &[u8]) {
+    text(b":");
+    match fmt::read(payload) {
+        fmt::Reading::Refused(r) => refused(r),
+        fmt::Reading::Record(r) => {
+            format(r);
+            write_fmt(r, payload);
+        }
+    }
+}
+
+// A payload that was written, read as fmt.
+fn back(payload: &[u8]) {
+    text(b", back");
+    match fmt::read(payload) {
+        fmt::Reading::Refused(r) => refused(r),
+        fmt::Reading::Record(r) => format(r),
+    }
+}
+
+// The fmt record whose fields stand as numbers of 8 bytes.
+fn fields(file: &[u8]) -> Format
+    requires { ⌜ 72 ≤ length (now file) ⌝ }
+{
+    Format {
+        size: le::read8(file, 0),
+        tag: le::read8(file, 8),
+        channels: le::read8(file, 16),
+        rate: le::read8(file, 24),
+        byterate: le::read8(file, 32),
+        block: le::read8(file, 40),
+        bits: le::read8(file, 48),
+        valid: le::read8(file, 56),
+        mask: le::read8(file, 64),
+    }
+}
+
+// Writes a fmt record and reads it back.
+fn given_fmt(r: Format) {
+    let mut out = io::buffer();
+    let w = fmt::write(r, &mut out);
+    text(b": written");
+    let n = answer(w);
+    if 0 < n {
+        back(first(&out, n));
+    }
+}
+
+fn flag(b: bool) {
+    if b {
+        text(b" set");
+    } else {
+        text(b" none");
+    }
+}
+
+// The fields of bext.
+fn bext_fields(r: Bext) {
+    text(b" 0");
+    next(r.description);
+    next(r.originator);
+    next(r.reference);
+    flag(r.date);
+    flag(r.time);
+    next(r.timeref);
+    next(r.version);
+    next(r.history);
+}
+
+// 10 or 8 bytes where date or time is set.
+fn if_set(set: bool, n: usize) -> usize {
+    if set { n } else { 0 }
+}
+
+// The bext that was read from a payload, written.
+fn bext_into(r: Bext, payload: &[u8], out: &mut [u8]) -> Written {
+    bext::write(
+        first(payload, r.description as usize),
+        part(payload, 256, r.originator as usize),
+        part(payload, 288, r.reference as usize),
+        part(payload, 320, if_set(r.date, 10)),
+        part(payload, 330, if_set(r.time, 8)),
+        r.timeref,
+        r.version,
+        part(payload, 348, 254),
+        part(payload, 602, payload.len()),
+        out,
+    )
+}
+
+fn write_bext(r: Bext, payload: &[u8]) {
+    let mut out = io::buffer();
+    let w = bext_into(r, payload, &mut out);
+    written(w, &out, payload);
+    let mut less = [0u8; 601];
+    short(bext_into(r, payload, &mut less));
+}
+
+// Reads a payload as bext, and writes the record.
+fn bext(payload: &[u8]) {
+    text(b":");
+    match bext::read(payload) {
+        bext::Reading::Refused(r) => refused(r),
+        bext::Reading::Record(r) => {
+            bext_fields(r);
+            write_bext(r, payload);
+        }
+    }
+}
+
+// Writes a bext with a description of n bytes, the date and the time that stand in their places, and nothing else.
+fn given_bext(file: &[u8], n: usize) {
+    let mut out = io::buffer();
+    let none = first(file, 0);
+    let date = part(file, 320, 10);
+    let time = part(file, 330, 8);
+    let w = bext::write(
+        first(file, n),
+        none,
+        none,
+        date,
+        time,
+        0,
+        0,
+        none,
+        none,
+        &mut out,
+    );
+    text(b": written");
+    answer(w);
+}
+
+// What is read as chna: track count, UID count, entries.
+fn chna_fields(payload: &[u8], channels: u64) {
+    match chna::read(payload, channels) {
+        chna::Reading::Refused(r) => refused(r),
+        chna::Reading::Record(r) => {
+            text(b" 0");
+            next(r.tracks);
+            next(r.uids);
+            next(r.entries);
+        }
+    }
+}
+
+// A chna of the counts and entries in a payload, good or not, written.
+fn chna_into(payload: &[u8], channels: u64, out: &mut [u8]) -> Written
+    requires { ⌜ 4 ≤ length (now payload) ⌝ }
+{
+    chna::write(
+        le::read2(payload, 0),
+        le::read2(payload, 2),
+        &payload[4..],
+        channels,
+        out,
+    )
+}
+
+fn write_chna(payload: &[u8], channels: u64)
+    requires { ⌜ 4 ≤ length (now payload) ⌝ }
+{
+    let mut out = io::buffer();
+    let w = chna_into(payload, channels, &mut out);
+    written(w, &out, payload);
+    let mut less = [0u8; 3];
+    short(chna_into(payload, channels, &mut less));
+}
+
+// Reads a payload as chna, and writes them, good or not.
+fn chna(payload: &[u8], channels: u64) {
+    text(b":");
+    chna_fields(payload, channels);
+    if 4 <= payload.len() {
+        write_chna(payload, channels);
+    }
+}
+
+// Reads n zeros as chna.
+fn zeros(n: usize) {
+    let none = io::large_buffer();
+    text(b":");
+    chna_fields(first(&none, n), 2);
+}
+
+// A line: what a command that is none of the script's asks, at a place and after the number n.
+fn command(b: u8, at: u64, n: usize, file: &[u8])
+    requires { ⌜ 72 ≤ length (now file) ⌝ }
+{
     match b {
-        b'=' => copy(file, kept),
-        b'!' => copy(kept, file),
-        b'f' => ask::fmt(file, n),
-        b'b' => ask::bext(file, n),
-        b'c' => ask::chna(file, n, s.at as u64),
-        b'w' => ask::given_fmt(file),
-        b'd' => ask::given_bext(file, n),
-        b'z' => ask::zeros(n),
+        b'f' => fmt(first(file, n)),
+        b'b' => bext(first(file, n)),
+        b'c' => chna(first(file, n), at),
+        b'w' => given_fmt(fields(file)),
+        b'd' => given_bext(file, n),
+        b'z' => zeros(n),
+        _ => return,
+    }
+    text(b"\n");
+}
+
+// What a script leaves to the program at a character.
+fn act(sign: Sign, b: u8, at: usize, n: u64, file: &[u8])
+    requires { ⌜ 72 ≤ length (now file) ⌝ }
+{
+    match sign {
+        Sign::Print => text(&[b]),
+        Sign::Own => command(b, at as u64, n as usize, file),
         _ => {}
     }
 }
@@ -40,12 +323,13 @@ fn act(s: State, b: u8, file: &mut [u8], kept: &mut [u8]) {
 fn run(input: &[u8]) {
     let mut file = [0u8; 2048];
     let mut kept = [0u8; 2048];
-    let mut s = script::start();
+    let mut s = State::start();
     let mut i: usize = 0;
     while i < input.len() {
         let b = input[i];
-        act(s, b, &mut file, &mut kept);
-        s = script::step(s, b, &mut file);
+        let sign = s.sign(b);
+        act(sign, b, s.at, s.n, &file);
+        s = s.after(sign, &mut file, &mut kept);
         i += 1;
     }
 }
