@@ -1,39 +1,60 @@
 // Writes files of each form, with and without bext and chna, of even, odd and no audio, and prints each file's length, its
 // table as the scan has it, and for a 64-bit form the four numbers of its ds64. The document's whole file is printed byte by
 // byte. What is expected stands in the file stdout, worked out from document 01.
+ghost use Prim.Native.Nat.{_≤_};
 use chunk::Written;
 use fmt::Format;
 use form::Form;
+
+// One frame of two channels.
+const FRAME: [u8; 4] = [1, 0, 255, 255];
+
+// A track sheet of one entry, whose pad is 7F.
+const SHEET: [u8; 44] = *b"\x01\x00\x01\x00\x01\x00ATU_00000001AT_00010001_01AP_00010001\x7F";
 
 fn text(s: &[u8]) {
     io::write_all(1, s);
 }
 
-fn number(n: u64) {
+// A number after a space.
+fn next(n: u64) {
+    text(b" ");
     io::print_decimal(1, n);
 }
 
-// The four bytes of a name.
+// The four bytes of a name, after a space.
 fn name(n: u64) {
-    let mut four = [0u8; 4];
-    le::store4(&mut four, 0, n);
-    text(&four);
+    let mut five = *b"     ";
+    le::store4(&mut five, 1, n);
+    text(&five);
+}
+
+// A byte as the document prints it, and a space.
+fn hex(b: u8) {
+    let digits = *b"0123456789ABCDEF";
+    let three = [digits[(b / 16) as usize], digits[(b % 16) as usize], b' '];
+    text(&three);
+}
+
+// A line of bytes.
+fn bytes_of(file: &[u8]) {
+    let mut i: usize = 0;
+    while i < file.len() {
+        hex(file[i]);
+        i += 1;
+    }
+    text(b"\n");
 }
 
 // A row of a table: name, place and size.
-fn row(words: &[u64], at: usize) {
-    if words.len() < 3 {
-        return;
+fn row(words: &[u64], at: usize)
+    requires { ⌜ at ≤ 256 ⌝ }
+{
+    if at + 2 < words.len() {
+        name(words[at]);
+        next(words[at + 1]);
+        next(words[at + 2]);
     }
-    if words.len() - 3 < at {
-        return;
-    }
-    text(b" ");
-    name(words[at]);
-    text(b" ");
-    number(words[at + 1]);
-    text(b" ");
-    number(words[at + 2]);
 }
 
 // The rows of a table, of which a written file has at most five.
@@ -56,25 +77,21 @@ fn ds64(file: &[u8]) {
     if file.len() < 48 {
         return;
     }
-    if le::read4(file, 12) != chunk::Name::DS64 {
-        return;
+    if le::read4(file, 12) == chunk::Name::DS64 {
+        text(b";");
+        next(le::read8(file, 20));
+        next(le::read8(file, 28));
+        next(le::read8(file, 36));
+        next(le::read4(file, 44));
     }
-    text(b"; ");
-    number(le::read8(file, 20));
-    text(b" ");
-    number(le::read8(file, 28));
-    text(b" ");
-    number(le::read8(file, 36));
-    text(b" ");
-    number(le::read4(file, 44));
 }
 
-// The number of a scan, and the rows of its table.
+// The number of a scan, the rows of its table, and ds64.
 fn scan(file: &[u8]) {
     let t = wave::scan(file);
     let v = t.verdict;
     let words = t.table.words;
-    number(v.number() as u64);
+    next(v.number() as u64);
     rows(&words);
     ds64(file);
 }
@@ -83,19 +100,33 @@ fn scan(file: &[u8]) {
 fn written(out: &[u8], w: Written) {
     match w {
         Written::Refused(r) => {
-            text(b" refused ");
-            number(r.number() as u64);
+            text(b" refused");
+            next(r.number() as u64);
         }
         Written::Bytes(n) => {
-            text(b" ");
-            number(n);
-            text(b" bytes: ");
+            next(n);
+            text(b" bytes:");
             let k = n as usize;
             if k <= out.len() {
                 scan(&out[0..k]);
             }
         }
     }
+}
+
+// A line: what comes of a file, written into out.
+fn write(
+    label: &[u8],
+    form: Form,
+    format: Format,
+    bext: &[u8],
+    chna: &[u8],
+    audio: &[u8],
+    out: &mut [u8],
+) {
+    text(label);
+    let w = writer::write(form, format, bext, chna, audio, out);
+    written(out, w);
     text(b"\n");
 }
 
@@ -129,100 +160,96 @@ fn mono() -> Format {
     }
 }
 
-// Writes one file and prints what came of it.
+// The document's whole file, of one frame.
+fn document(label: &[u8], out: &mut [u8]) {
+    write(label, Form::Riff, stereo(), b"", b"", &FRAME, out);
+}
+
+// In an output of 85 bytes: the last one stays.
+fn whole() {
+    let mut out = [0xEEu8; 85];
+    document(b"the document's file:", &mut out);
+    bytes_of(&out);
+}
+
+// In an output of 83 bytes: nothing is written.
+fn short() {
+    let mut out = [0xEEu8; 83];
+    document(b"83 bytes of room:", &mut out);
+    bytes_of(&out[0..4]);
+}
+
+// The pad of a sheet's entry, in a file with no bext.
+fn pad() {
+    let sheet = SHEET;
+    let mut out = [0xEEu8; 800];
+    write(
+        b"the sheet's pad:",
+        Form::Riff,
+        stereo(),
+        b"",
+        &sheet,
+        b"",
+        &mut out,
+    );
+    bytes_of(&out[112..124]);
+}
+
+// One file.
 fn one(label: &[u8], form: Form, format: Format, bext: &[u8], chna: &[u8], audio: &[u8]) {
     let mut out = [0xEEu8; 800];
-    text(label);
-    let w = writer::write(form, format, bext, chna, audio, &mut out);
-    written(&out, w);
+    write(label, form, format, bext, chna, audio, &mut out);
 }
 
 // One file in each form.
 fn each(label: &[u8], format: Format, bext: &[u8], chna: &[u8], audio: &[u8]) {
     text(label);
-    text(b"\n");
-    one(b"  RIFF", Form::Riff, format, bext, chna, audio);
+    one(b"\n  RIFF", Form::Riff, format, bext, chna, audio);
     one(b"  RF64", Form::Rf64, format, bext, chna, audio);
     one(b"  BW64", Form::Bw64, format, bext, chna, audio);
 }
 
-fn byte(b: u8) {
-    let one = [b; 1];
-    text(&one);
+// Files of so many bytes of bext, all zero, of the track sheet and of the frame.
+fn case(label: &[u8], format: Format, bext: usize, chna: usize, audio: usize)
+    requires { ⌜ (bext ≤ 603) × (chna ≤ 44) × (audio ≤ 4) ⌝ }
+{
+    let zeros = [0u8; 603];
+    let sheet = SHEET;
+    let frame = FRAME;
+    each(
+        label,
+        format,
+        &zeros[0..bext],
+        &sheet[0..chna],
+        &frame[0..audio],
+    );
 }
 
-// A hexadecimal digit.
-fn digit(n: u8) {
-    if n < 10 {
-        byte(b'0' + n);
-    } else if n < 16 {
-        byte(b'A' + (n - 10));
-    }
+fn audio() {
+    case(b"one frame", stereo(), 0, 0, 4);
+    case(b"no audio", stereo(), 0, 0, 0);
+    case(b"odd audio", mono(), 0, 0, 3);
 }
 
-// Bytes as the document prints them.
-fn bytes_of(file: &[u8]) {
-    let mut i: usize = 0;
-    while i < file.len() {
-        let b = file[i];
-        digit(b / 16);
-        digit(b % 16);
-        text(b" ");
-        i += 1;
-    }
-    text(b"\n");
+fn records() {
+    case(b"bext", stereo(), 602, 0, 4);
+    case(b"chna", stereo(), 0, 44, 4);
+    case(b"bext and chna", stereo(), 602, 44, 4);
+    case(b"odd bext, odd audio", mono(), 603, 0, 3);
 }
 
-// The document's whole file, in an output of 85 bytes: the last one stays.
-fn whole() {
-    let mut out = [0xEEu8; 85];
-    let w = writer::write(Form::Riff, stereo(), b"", b"", &[1, 0, 255, 255], &mut out);
-    text(b"the document's file:");
-    written(&out, w);
-    bytes_of(&out);
+// What no writer takes.
+fn refused() {
+    case(b"ragged audio", stereo(), 0, 0, 3);
+    case(b"bext of 601", stereo(), 601, 0, 4);
+    case(b"chna of 43", stereo(), 0, 43, 4);
 }
 
-// An output of 83 bytes for it: nothing is written.
-fn short() {
-    let mut out = [0xEEu8; 83];
-    let w = writer::write(Form::Riff, stereo(), b"", b"", &[1, 0, 255, 255], &mut out);
-    text(b"83 bytes of room:");
-    written(&out, w);
-    bytes_of(&out[0..4]);
-}
-
-// The pad of a sheet's entry, in a file with no bext.
-fn pad(sheet: &[u8]) {
-    let mut out = [0xEEu8; 800];
-    let w = writer::write(Form::Riff, stereo(), b"", sheet, b"", &mut out);
-    text(b"the sheet's pad:");
-    written(&out, w);
-    bytes_of(&out[112..124]);
-}
-
-// A sheet without its last byte.
-fn cut(sheet: &[u8], audio: &[u8]) {
-    if 43 <= sheet.len() {
-        each(b"chna of 43", stereo(), b"", &sheet[0..43], audio);
-    }
-}
-
-// One frame; a bext of zeros, in which nothing is set; a track sheet of one entry, whose pad is 7F.
 fn main() {
-    let frame = [1u8, 0, 255, 255];
-    let bext = [0u8; 603];
-    let sheet = b"\x01\x00\x01\x00\x01\x00ATU_00000001AT_00010001_01AP_00010001\x7F";
     whole();
     short();
-    each(b"one frame", stereo(), b"", b"", &frame);
-    each(b"no audio", stereo(), b"", b"", b"");
-    each(b"odd audio", mono(), b"", b"", &frame[0..3]);
-    each(b"bext", stereo(), &bext[0..602], b"", &frame);
-    each(b"chna", stereo(), b"", sheet, &frame);
-    each(b"bext and chna", stereo(), &bext[0..602], sheet, &frame);
-    each(b"odd bext, odd audio", mono(), &bext, b"", &frame[0..3]);
-    pad(sheet);
-    each(b"ragged audio", stereo(), b"", b"", &frame[0..3]);
-    each(b"bext of 601", stereo(), &bext[0..601], b"", &frame);
-    cut(sheet, &frame);
+    audio();
+    records();
+    pad();
+    refused();
 }
