@@ -114,39 +114,21 @@ fn written(out: &[u8], w: Written) {
     }
 }
 
-// A line: what comes of a file, written into out.
-fn write(
-    label: &[u8],
-    form: Form,
-    format: Format,
-    bext: &[u8],
-    chna: &[u8],
-    audio: &[u8],
-    out: &mut [u8],
-) {
-    text(label);
-    let w = writer::write(form, format, bext, chna, audio, out);
-    written(out, w);
-    text(b"\n");
-}
-
-// Two channels, 16 bits, 48,000.
-fn stereo() -> Format {
-    Format {
-        size: 16,
-        tag: 1,
-        channels: 2,
-        rate: 48000,
-        byterate: 192000,
-        block: 4,
-        bits: 16,
-        valid: 0,
-        mask: 0,
+// Two channels of 16 bits, 48,000; or one of 8 bits, 8,000.
+fn format(channels: u64) -> Format {
+    if channels == 2 {
+        return Format {
+            size: 16,
+            tag: 1,
+            channels: 2,
+            rate: 48000,
+            byterate: 192000,
+            block: 4,
+            bits: 16,
+            valid: 0,
+            mask: 0,
+        };
     }
-}
-
-// One channel, 8 bits, 8,000.
-fn mono() -> Format {
     Format {
         size: 16,
         tag: 1,
@@ -160,57 +142,76 @@ fn mono() -> Format {
     }
 }
 
-// The document's whole file, of one frame.
-fn document(label: &[u8], out: &mut [u8]) {
-    write(label, Form::Riff, stereo(), b"", b"", &FRAME, out);
+// A line: what comes of a file, written into out.
+fn write(
+    label: &[u8],
+    form: Form,
+    channels: u64,
+    bext: &[u8],
+    chna: &[u8],
+    audio: &[u8],
+    out: &mut [u8],
+) {
+    text(label);
+    let w = writer::write(form, format(channels), bext, chna, audio, out);
+    written(out, w);
+    text(b"\n");
 }
 
-// In an output of 85 bytes: the last one stays.
+// A file of so many bytes of the track sheet and of the frame, written into out.
+fn riff(label: &[u8], chna: usize, audio: usize, out: &mut [u8])
+    requires { ⌜ (chna ≤ 44) × (audio ≤ 4) ⌝ }
+{
+    let sheet = SHEET;
+    let frame = FRAME;
+    write(
+        label,
+        Form::Riff,
+        2,
+        b"",
+        &sheet[0..chna],
+        &frame[0..audio],
+        out,
+    );
+}
+
+// The document's whole file, in an output of 85 bytes: the last one stays.
 fn whole() {
     let mut out = [0xEEu8; 85];
-    document(b"the document's file:", &mut out);
+    riff(b"the document's file:", 0, 4, &mut out);
     bytes_of(&out);
 }
 
-// In an output of 83 bytes: nothing is written.
+// An output of 83 bytes for it: nothing is written.
 fn short() {
     let mut out = [0xEEu8; 83];
-    document(b"83 bytes of room:", &mut out);
+    riff(b"83 bytes of room:", 0, 4, &mut out);
     bytes_of(&out[0..4]);
 }
 
 // The pad of a sheet's entry, in a file with no bext.
 fn pad() {
-    let sheet = SHEET;
     let mut out = [0xEEu8; 800];
-    write(
-        b"the sheet's pad:",
-        Form::Riff,
-        stereo(),
-        b"",
-        &sheet,
-        b"",
-        &mut out,
-    );
+    riff(b"the sheet's pad:", 44, 0, &mut out);
     bytes_of(&out[112..124]);
 }
 
 // One file.
-fn one(label: &[u8], form: Form, format: Format, bext: &[u8], chna: &[u8], audio: &[u8]) {
+fn one(label: &[u8], form: Form, channels: u64, bext: &[u8], chna: &[u8], audio: &[u8]) {
     let mut out = [0xEEu8; 800];
-    write(label, form, format, bext, chna, audio, &mut out);
+    write(label, form, channels, bext, chna, audio, &mut out);
 }
 
 // One file in each form.
-fn each(label: &[u8], format: Format, bext: &[u8], chna: &[u8], audio: &[u8]) {
+fn each(label: &[u8], channels: u64, bext: &[u8], chna: &[u8], audio: &[u8]) {
     text(label);
-    one(b"\n  RIFF", Form::Riff, format, bext, chna, audio);
-    one(b"  RF64", Form::Rf64, format, bext, chna, audio);
-    one(b"  BW64", Form::Bw64, format, bext, chna, audio);
+    one(b"\n  RIFF", Form::Riff, channels, bext, chna, audio);
+    one(b"  RF64", Form::Rf64, channels, bext, chna, audio);
+    one(b"  BW64", Form::Bw64, channels, bext, chna, audio);
 }
 
-// Files of so many bytes of bext, all zero, of the track sheet and of the frame.
-fn case(label: &[u8], format: Format, bext: usize, chna: usize, audio: usize)
+// Files of so many channels, and of so many bytes of bext, all zero, of the track sheet and of the frame.
+fn case(label: &[u8], channels: u64, bext: usize, chna: usize, audio: usize)
     requires { ⌜ (bext ≤ 603) × (chna ≤ 44) × (audio ≤ 4) ⌝ }
 {
     let zeros = [0u8; 603];
@@ -218,7 +219,7 @@ fn case(label: &[u8], format: Format, bext: usize, chna: usize, audio: usize)
     let frame = FRAME;
     each(
         label,
-        format,
+        channels,
         &zeros[0..bext],
         &sheet[0..chna],
         &frame[0..audio],
@@ -226,23 +227,23 @@ fn case(label: &[u8], format: Format, bext: usize, chna: usize, audio: usize)
 }
 
 fn audio() {
-    case(b"one frame", stereo(), 0, 0, 4);
-    case(b"no audio", stereo(), 0, 0, 0);
-    case(b"odd audio", mono(), 0, 0, 3);
+    case(b"one frame", 2, 0, 0, 4);
+    case(b"no audio", 2, 0, 0, 0);
+    case(b"odd audio", 1, 0, 0, 3);
 }
 
 fn records() {
-    case(b"bext", stereo(), 602, 0, 4);
-    case(b"chna", stereo(), 0, 44, 4);
-    case(b"bext and chna", stereo(), 602, 44, 4);
-    case(b"odd bext, odd audio", mono(), 603, 0, 3);
+    case(b"bext", 2, 602, 0, 4);
+    case(b"chna", 2, 0, 44, 4);
+    case(b"bext and chna", 2, 602, 44, 4);
+    case(b"odd bext, odd audio", 1, 603, 0, 3);
 }
 
 // What no writer takes.
 fn refused() {
-    case(b"ragged audio", stereo(), 0, 0, 3);
-    case(b"bext of 601", stereo(), 601, 0, 4);
-    case(b"chna of 43", stereo(), 0, 43, 4);
+    case(b"ragged audio", 2, 0, 0, 3);
+    case(b"bext of 601", 2, 601, 0, 4);
+    case(b"chna of 43", 2, 0, 43, 4);
 }
 
 fn main() {
