@@ -16,6 +16,8 @@ use chunk::Written;
 use fmt::Format;
 use script::Sign;
 use script::State;
+use script::first;
+use script::part;
 
 fn text(s: &[u8]) {
     io::write_all(1, s);
@@ -29,22 +31,6 @@ fn next(n: u64) {
 
 fn refused(r: Refusal) {
     next(r.number() as u64);
-}
-
-// The first n bytes, or as many as there are.
-fn first(s: &[u8], n: usize) -> &[u8] {
-    if s.len() < n {
-        return s;
-    }
-    &s[..n]
-}
-
-// The n bytes at a place, or as many as there are.
-fn part(s: &[u8], at: usize, n: usize) -> &[u8] {
-    if s.len() < at {
-        return s;
-    }
-    first(&s[at..], n)
 }
 
 // What a writer answers. Gives the number of bytes that it wrote, 0 where it refused.
@@ -61,21 +47,17 @@ fn answer(w: Written) -> usize {
     }
 }
 
-// Whether two runs of bytes are the same.
-fn compared(a: &[u8], b: &[u8]) {
-    if check::same(a, b) {
-        text(b" same");
-    } else {
-        text(b" changed");
-    }
-}
-
 // What a writer answers, and whether it wrote the bytes that were read.
 fn written(w: Written, out: &[u8], payload: &[u8]) {
     text(b"; written");
     let n = answer(w);
-    if 0 < n {
-        compared(first(out, n), payload);
+    if n == 0 {
+        return;
+    }
+    if check::same(first(out, n), payload) {
+        text(b" same");
+    } else {
+        text(b" changed");
     }
 }
 
@@ -147,9 +129,11 @@ fn fields(file: &[u8]) -> Format
 }
 
 // Writes a fmt record and reads it back.
-fn given_fmt(r: Format) {
+fn given_fmt(file: &[u8])
+    requires { ⌜ 72 ≤ length (now file) ⌝ }
+{
     let mut out = io::buffer();
-    let w = fmt::write(r, &mut out);
+    let w = fmt::write(fields(file), &mut out);
     text(b": written");
     let n = answer(w);
     if 0 < n {
@@ -219,14 +203,14 @@ fn bext(payload: &[u8]) {
     }
 }
 
-// Writes a bext with a description of n bytes, the date and the time that stand in their places, and nothing else.
-fn given_bext(file: &[u8], n: usize) {
+// Writes a bext with a description, the date and the time that stand in their places, and nothing else.
+fn given_bext(description: &[u8], file: &[u8]) {
     let mut out = io::buffer();
     let none = first(file, 0);
     let date = part(file, 320, 10);
     let time = part(file, 330, 8);
     let w = bext::write(
-        first(file, n),
+        description,
         none,
         none,
         date,
@@ -297,12 +281,13 @@ fn zeros(n: usize) {
 fn command(b: u8, at: u64, n: usize, file: &[u8])
     requires { ⌜ 72 ≤ length (now file) ⌝ }
 {
+    let payload = first(file, n);
     match b {
-        b'f' => fmt(first(file, n)),
-        b'b' => bext(first(file, n)),
-        b'c' => chna(first(file, n), at),
-        b'w' => given_fmt(fields(file)),
-        b'd' => given_bext(file, n),
+        b'f' => fmt(payload),
+        b'b' => bext(payload),
+        b'c' => chna(payload, at),
+        b'w' => given_fmt(file),
+        b'd' => given_bext(payload, file),
         b'z' => zeros(n),
         _ => return,
     }

@@ -1,10 +1,11 @@
 -- What the definitions come to in each case that the code tests.
 -- Assumes nothing.
-use mathlib.Core.Path.{_≡_}
-use mathlib.Core.List.{List, _++_}
-use Prim.Native.Nat.{ℕ, suc, _+_, _-_, _/_, _%_, _≤_, _<_}
+use mathlib.Core.Path.{_≡_, ap, _∙_}
+use mathlib.Core.List.{List, [], _∷_, _++_}
+use Prim.Native.Nat.{ℕ, zero, suc, _+_, _-_, _/_, _%_, _≤_, _<_}
 use native.Mathlib.Omega.{arith}
-use lib.ListN.{length, set, drop}
+use lib.ListN.{length, set, take, drop}
+use lib.Seq.{take-nil, drop-nil}
 use borrow.Author.Tests.{le-leb, lt-leb}
 use Rattle.le.specs.Number.{stored, bytes}
 use Rattle.script.specs.Scripts.{placeAfter, putAt, laid}
@@ -45,3 +46,12 @@ laid-fits f t h = simp (le-leb (length f) (length t) h)
 pub laid-past : (f t : List ℕ) → length t < length f → laid f t ≡ t
 unfolding laid
 laid-past f t h = simp (lt-leb (length f) (length t) h)
+
+drop-past : (at : ℕ) (s : List ℕ) → length s ≤ at → drop at s ≡ []
+drop-past at [] h = drop-nil at
+drop-past zero (x ∷ s) h = absurd (omega arith)
+drop-past (suc at) (x ∷ s) h = drop-past at s (omega arith)
+
+-- no bytes stand past the end
+pub none-past : (n at : ℕ) (s : List ℕ) → length s ≤ at → take n (drop at s) ≡ []
+none-past n at s h = ap (take n) (drop-past at s h) ∙ take-nil n

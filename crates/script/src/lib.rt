@@ -5,7 +5,7 @@
 // of the line. (text) is to be printed, and any other character is a command to the program that runs the script.
 ghost use mathlib.Core.Path.{_≡_};
 ghost use Prim.Native.Nat.{_<_};
-ghost use lib.ListN.{length};
+ghost use lib.ListN.{length, take, drop};
 ghost use Rattle.script.specs.Scripts.{after, commandOf, laid, placeAfter, putAt, signOf, started, still, within, work};
 
 // What the next character belongs to.
@@ -126,6 +126,26 @@ fn copy(from: &[u8], to: &mut [u8])
     if from.len() <= to.len() {
         bytes::copy(from, to);
     }
+}
+
+// The first n bytes, or as many as there are.
+pub fn first(s: &[u8], n: usize) -> &[u8]
+    ensures { λ r. ⌜ now r ≡ take n (now (s .entry)) ⌝ }
+{
+    if s.len() < n {
+        return s;
+    }
+    &s[..n]
+}
+
+// The n bytes at a place, or as many as there are.
+pub fn part(s: &[u8], at: usize, n: usize) -> &[u8]
+    ensures { λ r. ⌜ now r ≡ take n (drop at (now (s .entry))) ⌝ }
+{
+    if s.len() < at {
+        return first(s, 0);
+    }
+    first(&s[at..], n)
 }
 
 impl State {

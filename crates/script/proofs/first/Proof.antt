@@ -1,14 +1,14 @@
--- The part has n bytes, since n was tested.
+-- `script::first` meets its contract.
 -- Assumes nothing.
 use mathlib.Core.Path.{sym}
 use native.Mathlib.Omega.{arith}
-use lib.Seq.{length-take-le}
+use lib.Seq.{take-all, length-take-le}
 use borrow.Author.Needs.{needs}
-use Rattle.run_records.proofs.first.Statement.{statement}
-use Rattle.run_records.proofs.first.Tie as tie
+use Rattle.script.proofs.first.Statement.{statement}
+use Rattle.script.proofs.first.Tie as tie
 
 returns : tie.Need-returns
-returns c = search needs
+returns c = sym (take-all (c .before .args .n) (c .before .args .s .now) (omega arith))
 
 slice-aggregate-result : tie.Need-slice-aggregate-result
 slice-aggregate-result c = sym (length-take-le (c .before .before .args .n) (c .before .before .args .s .now) (omega arith))
