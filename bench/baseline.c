@@ -8,6 +8,8 @@
 
 #include <string.h>
 
+#define INLINE static inline __attribute__((always_inline))
+
 #define NAME(a, b, c, d) \
     ((uint32_t)(a) | (uint32_t)(b) << 8 | (uint32_t)(c) << 16 | (uint32_t)(d) << 24)
 
@@ -35,41 +37,46 @@ enum {
     VERSION = 346, REST = 348, HISTORY = 602
 };
 
-/* ---- numbers ---- */
+/* ---- numbers, on a machine that is little-endian itself ---- */
+
+#if __BYTE_ORDER__ != __ORDER_LITTLE_ENDIAN__
+#error "these loads and stores are little-endian"
+#endif
 
 static inline uint16_t le16(const uint8_t *p)
 {
-    return (uint16_t)(p[0] | p[1] << 8);
+    uint16_t v;
+    memcpy(&v, p, 2);
+    return v;
 }
 
 static inline uint32_t le32(const uint8_t *p)
 {
-    return (uint32_t)p[0] | (uint32_t)p[1] << 8 | (uint32_t)p[2] << 16 | (uint32_t)p[3] << 24;
+    uint32_t v;
+    memcpy(&v, p, 4);
+    return v;
 }
 
 static inline uint64_t le64(const uint8_t *p)
 {
-    return (uint64_t)le32(p) | (uint64_t)le32(p + 4) << 32;
+    uint64_t v;
+    memcpy(&v, p, 8);
+    return v;
 }
 
 static inline void put16(uint8_t *p, uint16_t v)
 {
-    p[0] = (uint8_t)v;
-    p[1] = (uint8_t)(v >> 8);
+    memcpy(p, &v, 2);
 }
 
 static inline void put32(uint8_t *p, uint32_t v)
 {
-    p[0] = (uint8_t)v;
-    p[1] = (uint8_t)(v >> 8);
-    p[2] = (uint8_t)(v >> 16);
-    p[3] = (uint8_t)(v >> 24);
+    memcpy(p, &v, 4);
 }
 
 static inline void put64(uint8_t *p, uint64_t v)
 {
-    put32(p, (uint32_t)v);
-    put32(p + 4, (uint32_t)(v >> 32));
+    memcpy(p, &v, 8);
 }
 
 /* memcpy that takes any pointer with length 0. */
@@ -103,26 +110,17 @@ struct fmt {
     uint32_t size, tag, channels, rate, speed, block, bits, valid, mask;
 };
 
-static const uint8_t PCM_GUID[16] = {
-    0x01, 0x00, 0x00, 0x00, 0x00, 0x00, 0x10, 0x00,
-    0x80, 0x00, 0x00, 0xAA, 0x00, 0x38, 0x9B, 0x71
-};
+#define GUID_LOW  0x0010000000000001u /* 01 00 00 00 00 00 10 00 */
+#define GUID_HIGH 0x719B3800AA000080u /* 80 00 00 AA 00 38 9B 71 */
 
-/* What reader and writer ask alike of a record whose words fit their fields. */
-static inline int fmt_good(const struct fmt *r)
+/* What is asked of a record of any size. */
+static inline int fmt_numbers_good(const struct fmt *r)
 {
-    if (r->channels == 0 || r->rate == 0)
-        return 0;
-    if (r->bits != 8 && r->bits != 16 && r->bits != 24 && r->bits != 32)
-        return 0;
-    if (r->block != r->channels * (r->bits / 8))
-        return 0;
-    if (r->tag == 1)
-        return (r->size == 16 || r->size == 18) && r->valid == 0 && r->mask == 0;
-    return r->tag == 0xFFFE && r->size == 40 && r->valid >= 1 && r->valid <= r->bits;
+    return r->channels != 0 && r->rate != 0 && ((r->bits - 8) & ~24u) == 0 &&
+           r->block == r->channels * (r->bits / 8);
 }
 
-static inline int fmt_read(const uint8_t *p, size_t len, struct fmt *r)
+static inline int fmt_read(const uint8_t *p, uint64_t len, struct fmt *r)
 {
     if (len != 16 && len != 18 && len != 40)
         return 0;
@@ -134,15 +132,16 @@ static inline int fmt_read(const uint8_t *p, size_t len, struct fmt *r)
     r->block = le16(p + 12);
     r->bits = le16(p + 14);
     r->valid = r->mask = 0;
-    if (len == 18 && le16(p + 16) != 0)
-        return 0;
     if (len == 40) {
-        if (le16(p + 16) != 22 || memcmp(p + 24, PCM_GUID, 16) != 0)
-            return 0;
         r->valid = le16(p + 18);
         r->mask = le32(p + 20);
+        if (r->tag != 0xFFFE || le16(p + 16) != 22 || r->valid < 1 || r->valid > r->bits ||
+            le64(p + 24) != GUID_LOW || le64(p + 32) != GUID_HIGH)
+            return 0;
+    } else if (r->tag != 1 || (len == 18 && le16(p + 16) != 0)) {
+        return 0;
     }
-    return fmt_good(r);
+    return fmt_numbers_good(r);
 }
 
 static inline int fmt_from_words(const uint64_t *w, size_t words, struct fmt *r)
@@ -161,7 +160,10 @@ static inline int fmt_from_words(const uint64_t *w, size_t words, struct fmt *r)
     r->bits = (uint32_t)w[6];
     r->valid = (uint32_t)w[7];
     r->mask = (uint32_t)w[8];
-    return fmt_good(r) && (uint64_t)r->rate * r->block == r->speed;
+    if (r->size == 40 ? r->tag != 0xFFFE || r->valid < 1 || r->valid > r->bits
+                      : (r->size != 16 && r->size != 18) || r->tag != 1 || r->valid || r->mask)
+        return 0;
+    return fmt_numbers_good(r) && (uint64_t)r->rate * r->block == r->speed;
 }
 
 static inline void fmt_put(uint8_t *p, const struct fmt *r)
@@ -179,7 +181,8 @@ static inline void fmt_put(uint8_t *p, const struct fmt *r)
         return;
     put16(p + 18, (uint16_t)r->valid);
     put32(p + 20, r->mask);
-    memcpy(p + 24, PCM_GUID, 16);
+    put64(p + 24, GUID_LOW);
+    put64(p + 32, GUID_HIGH);
 }
 
 /* ---- bext ---- */
@@ -329,57 +332,106 @@ static inline void entries_put(uint8_t *out, const uint8_t *entries, size_t len)
         out[i] = 0;
 }
 
-/* ---- the scan ---- */
+/* ---- the chunks ---- */
 
-struct head {
-    uint32_t name;
-    uint32_t entries;    /* ds64 entries, 0 in RIFF */
-    uint64_t data, third; /* of ds64 */
+/*
+ * A place is a payload's; its header is the 8 bytes ahead of it. One test finds the chunks that another
+ * whole header follows: the next place is at most near. near is the end, or nearer where the file is so
+ * long that an all-ones field would pass.
+ */
+struct place {
+    uint64_t at, next, near;
+    uint32_t more; /* chunks that there may be, this one too */
 };
 
+INLINE uint64_t near_end(uint64_t at, uint64_t len)
+{
+    return len - at > ONES ? at + ONES : len;
+}
+
+INLINE uint64_t next_place(uint64_t at, uint64_t size)
+{
+    return at + ((size + 1) & ~(uint64_t)1) + 8;
+}
+
+/* For a chunk of that true size which fails the test: it passes the end, or is the last, or is long. */
+INLINE uint32_t at_the_end(struct place *w, uint64_t size, uint64_t len)
+{
+    uint64_t left = len - w->at;
+    if (size > left || (size & 1) > left - size)
+        return SYMPHEDRA_PAST_END;
+    w->next = next_place(w->at, size);
+    w->near = near_end(w->next, len);
+    if (w->next > len)
+        w->more = 1;
+    return SYMPHEDRA_OK;
+}
+
+/* Why no chunk was read at the next place. */
+INLINE uint32_t stop(uint64_t next, uint64_t len)
+{
+    if (next - 8 == len)
+        return SYMPHEDRA_OK;
+    return next > len ? SYMPHEDRA_CUT_HEADER : SYMPHEDRA_TOO_MANY;
+}
+
+INLINE void put_row(uint64_t *row, uint32_t name, uint64_t at, uint64_t size)
+{
+    row[0] = name;
+    row[1] = at;
+    row[2] = size;
+    row[3] = 0;
+}
+
+/* ---- the scan ---- */
+
+/* What a scan finds beside its rows; a place of 0 means absent. */
+struct found {
+    uint32_t form, chunks, block;
+    uint64_t fmt, fmt_size, data, data_size, fact, bext, chna;
+    int broken; /* doubled chunks, a short fact */
+};
+
+INLINE int ds64_good(const uint8_t *f, uint64_t len)
+{
+    if (len < 20 + RESERVE || le32(f + 12) != DS64)
+        return 0;
+    uint64_t size = le32(f + 16);
+    uint32_t entries = le32(f + 44);
+    return size != ONES && size + (size & 1) <= len - 20 && entries <= DS64_ENTRIES &&
+           size >= RESERVE + DS64_ENTRY * entries;
+}
+
 /* Checks 1 to 5. */
-static inline uint32_t read_head(const uint8_t *f, size_t len, struct head *h)
+INLINE uint32_t read_head(const uint8_t *f, uint64_t len, uint32_t *form)
 {
     if (len < 12)
         return SYMPHEDRA_TOO_SHORT;
-    uint32_t name = le32(f), field = le32(f + 4);
-    uint64_t form = field;
-    if ((name != RIFF && name != RF64 && name != BW64) || le32(f + 8) != WAVE)
+    uint64_t head = le64(f), size = head >> 32;
+    *form = (uint32_t)head;
+    if ((*form != RIFF && *form != RF64 && *form != BW64) || le32(f + 8) != WAVE)
         return SYMPHEDRA_NOT_WAVE;
-    h->name = name;
-    h->entries = 0;
-    h->data = h->third = 0;
-    if (name == RIFF) {
-        if (field == ONES)
+    if (*form == RIFF) {
+        if (size == ONES)
             return SYMPHEDRA_UNFINISHED;
     } else {
-        if (len < 20 + RESERVE || le32(f + 12) != DS64)
+        if (!ds64_good(f, len))
             return SYMPHEDRA_BAD_DS64;
-        uint64_t size = le32(f + 16);
-        uint32_t entries = le32(f + 44);
-        if (size == ONES || size + (size & 1) > len - 20 || entries > DS64_ENTRIES ||
-            size < RESERVE + DS64_ENTRY * entries)
-            return SYMPHEDRA_BAD_DS64;
-        h->entries = entries;
-        h->data = le64(f + 28);
-        h->third = le64(f + 36);
-        if (field == ONES)
-            form = le64(f + 20);
+        if (size == ONES)
+            size = le64(f + 20);
     }
-    return form == len - 8 ? SYMPHEDRA_OK : SYMPHEDRA_BAD_FORM_SIZE;
+    return size == len - 8 ? SYMPHEDRA_OK : SYMPHEDRA_BAD_FORM_SIZE;
 }
 
-/* The true size of a chunk whose own field is all ones. */
-static inline int true_size(const uint8_t *f, const struct head *h, uint32_t name, uint64_t *size)
+/* The true size of a chunk whose own field is all ones, in a 64-bit form. */
+INLINE int true_size(const uint8_t *f, uint32_t name, uint64_t *size)
 {
-    if (h->name == RIFF)
-        return 0;
+    const uint8_t *entry = f + 20 + RESERVE, *end = entry + DS64_ENTRY * le32(f + 44);
     if (name == DATA) {
-        *size = h->data;
+        *size = le64(f + 28);
         return 1;
     }
-    const uint8_t *entry = f + 20 + RESERVE;
-    for (uint32_t i = 0; i < h->entries; i++, entry += DS64_ENTRY)
+    for (; entry != end; entry += DS64_ENTRY)
         if (le32(entry) == name) {
             *size = le64(entry + 4);
             return 1;
@@ -387,86 +439,87 @@ static inline int true_size(const uint8_t *f, const struct head *h, uint32_t nam
     return 0;
 }
 
-/* What the scan finds beside the table; a place of 0 means absent. */
-struct found {
-    struct head head;
-    struct fmt fmt;
-    size_t fmt_at, fmt_size, data_at, fact_at, bext_at, chna_at;
-    uint64_t data_size;
-    uint32_t chunks, broken;
-};
-
-static inline void note(struct found *s, uint32_t name, size_t at, uint64_t size)
+/* A chunk with a name from b to f; 0 for ds64, which is out of place. */
+INLINE int note(struct found *s, uint32_t name, uint64_t at, uint64_t size)
 {
-    switch (name) {
-    case FMT:
-        s->broken |= s->fmt_at != 0;
-        s->fmt_at = at;
+    if (name == FMT) {
+        s->broken |= s->fmt != 0;
+        s->fmt = at;
         s->fmt_size = size;
-        break;
-    case DATA:
-        s->broken |= s->data_at != 0 || s->fmt_at == 0;
-        s->data_at = at;
+    } else if (name == DATA) {
+        s->broken |= s->data != 0;
+        s->data = at;
         s->data_size = size;
-        break;
-    case FACT:
-        s->broken |= s->fact_at != 0 || size < 4;
-        s->fact_at = at;
-        break;
-    case BEXT:
-        s->broken |= s->bext_at != 0;
-        s->bext_at = at;
-        break;
-    case CHNA:
-        s->broken |= s->chna_at != 0;
-        s->chna_at = at;
-        break;
+    } else if (name == FACT) {
+        s->broken |= s->fact != 0 || size < 4;
+        s->fact = at;
+    } else if (name == BEXT) {
+        s->broken |= s->bext != 0;
+        s->bext = at;
+    } else if (name == CHNA) {
+        s->broken |= s->chna != 0;
+        s->chna = at;
     }
+    return name != DS64;
 }
 
 /* rows: room for 64, or NULL where they aren't wanted. */
-static inline uint32_t scan(const uint8_t *f, size_t len, uint64_t *rows, struct found *s)
+INLINE uint32_t scan(const uint8_t *f, uint64_t len, uint64_t *rows, struct found *s)
 {
-    memset(s, 0, sizeof *s);
-    uint32_t refusal = read_head(f, len, &s->head);
+    struct found none = {0};
+    struct place w;
+    struct fmt fmt;
+    uint64_t *row = rows;
+    *s = none;
+    uint32_t refusal = read_head(f, len, &s->form);
     if (refusal)
         return refusal;
-    size_t at = 12;
-    uint32_t n = 0;
-    while (at != len) {
-        size_t left = len - at;
-        if (left < 8)
-            return SYMPHEDRA_CUT_HEADER;
-        if (n == SYMPHEDRA_CHUNK_LIMIT)
-            return SYMPHEDRA_TOO_MANY;
-        uint32_t name = le32(f + at);
-        uint64_t size = le32(f + at + 4);
-        if (name == DS64 && (at != 12 || s->head.name == RIFF))
-            return SYMPHEDRA_BAD_DS64;
-        if (size == ONES && !true_size(f, &s->head, name, &size))
-            return SYMPHEDRA_UNKNOWN_SIZE;
-        at += 8;
-        left -= 8;
-        if (size > left || (size & 1) > left - size)
-            return SYMPHEDRA_PAST_END;
+    w.more = SYMPHEDRA_CHUNK_LIMIT;
+    w.next = 20;
+    if (s->form != RIFF) {
+        uint64_t size = le32(f + 16);
+        w.next = next_place(20, size);
+        w.more--;
         if (rows) {
-            rows[0] = name;
-            rows[1] = at;
-            rows[2] = size;
-            rows[3] = 0;
-            rows += 4;
+            put_row(row, DS64, 20, size);
+            row += 4;
         }
-        n++;
-        note(s, name, at, size);
-        at += size + (size & 1);
     }
-    s->chunks = n;
-    if (s->fmt_at == 0 || s->data_at == 0 || s->broken)
+    if (w.next > len)
+        return w.next - 8 == len ? SYMPHEDRA_BAD_CHUNK_SET : SYMPHEDRA_CUT_HEADER;
+    w.near = near_end(w.next, len);
+    do {
+        w.at = w.next;
+        uint64_t header = le64(f + w.at - 8), size = header >> 32;
+        uint32_t name = (uint32_t)header;
+        w.next = next_place(w.at, size);
+        if (w.next > w.near) {
+            if (name == DS64)
+                return SYMPHEDRA_BAD_DS64;
+            if (size == ONES && (s->form == RIFF || !true_size(f, name, &size)))
+                return SYMPHEDRA_UNKNOWN_SIZE;
+            if (at_the_end(&w, size, len))
+                return SYMPHEDRA_PAST_END;
+        }
+        if (rows) {
+            put_row(row, name, w.at, size);
+            row += 4;
+        }
+        if ((uint8_t)(header - 'b') <= 'f' - 'b' && !note(s, name, w.at, size))
+            return SYMPHEDRA_BAD_DS64;
+    } while (--w.more);
+    refusal = stop(w.next, len);
+    if (refusal)
+        return refusal;
+    if (s->fmt == 0 || s->data < s->fmt || s->broken)
         return SYMPHEDRA_BAD_CHUNK_SET;
-    if (!fmt_read(f + s->fmt_at, s->fmt_size, &s->fmt))
+    if (!fmt_read(f + s->fmt, s->fmt_size, &fmt))
         return SYMPHEDRA_BAD_FMT;
-    if (s->data_size % s->fmt.block != 0)
+    if (s->data_size % fmt.block != 0)
         return SYMPHEDRA_RAGGED_AUDIO;
+    s->block = fmt.block;
+    if (rows)
+        s->chunks = (uint32_t)(row - rows) / 4;
     return SYMPHEDRA_OK;
 }
 
@@ -477,10 +530,9 @@ uint32_t symphedra_scan(const uint8_t *file, size_t len, uint64_t *table, size_t
     if (words < SYMPHEDRA_TABLE_WORDS)
         return SYMPHEDRA_SHORT_OUTPUT;
     uint32_t refusal = scan(file, len, rows, &s);
-    if (refusal) {
-        table[0] = 0;
+    table[0] = 0;
+    if (refusal)
         return refusal;
-    }
     table[0] = s.chunks;
     memcpy(table + 1, rows, s.chunks * 4 * sizeof rows[0]);
     return SYMPHEDRA_OK;
@@ -488,6 +540,9 @@ uint32_t symphedra_scan(const uint8_t *file, size_t len, uint64_t *table, size_t
 
 uint32_t symphedra_walk32(const uint8_t *file, size_t len, uint64_t *table, size_t words)
 {
+    struct place w;
+    uint64_t *row = table + 1;
+    uint32_t refusal;
     if (words < SYMPHEDRA_TABLE_WORDS)
         return SYMPHEDRA_SHORT_OUTPUT;
     table[0] = 0;
@@ -498,41 +553,27 @@ uint32_t symphedra_walk32(const uint8_t *file, size_t len, uint64_t *table, size
     uint32_t field = le32(file + 4);
     if (field != ONES && field != len - 8)
         return SYMPHEDRA_BAD_FORM_SIZE;
-    size_t at = 12;
-    uint32_t n = 0, stop = SYMPHEDRA_OK;
-    uint64_t *row = table + 1;
-    while (at != len) {
-        size_t left = len - at;
-        if (left < 8) {
-            stop = SYMPHEDRA_CUT_HEADER;
-            break;
+    if (len < 20)
+        return len == 12 ? SYMPHEDRA_OK : SYMPHEDRA_CUT_HEADER;
+    w.more = SYMPHEDRA_CHUNK_LIMIT;
+    w.next = 20;
+    w.near = near_end(w.next, len);
+    do {
+        w.at = w.next;
+        uint64_t header = le64(file + w.at - 8), size = header >> 32;
+        w.next = next_place(w.at, size);
+        if (w.next > w.near) {
+            refusal = size == ONES ? SYMPHEDRA_UNKNOWN_SIZE : at_the_end(&w, size, len);
+            if (refusal)
+                goto out;
         }
-        if (n == SYMPHEDRA_CHUNK_LIMIT) {
-            stop = SYMPHEDRA_TOO_MANY;
-            break;
-        }
-        uint32_t name = le32(file + at);
-        uint64_t size = le32(file + at + 4);
-        if (size == ONES) {
-            stop = SYMPHEDRA_UNKNOWN_SIZE;
-            break;
-        }
-        at += 8;
-        left -= 8;
-        if (size > left || (size & 1) > left - size) {
-            stop = SYMPHEDRA_PAST_END;
-            break;
-        }
-        row[0] = name;
-        row[1] = at;
-        row[2] = size;
-        row[3] = 0;
+        put_row(row, (uint32_t)header, w.at, size);
         row += 4;
-        n++;
-        at += size + (size & 1);
-    }
-    table[0] = n;
-    return stop;
+    } while (--w.more);
+    refusal = stop(w.next, len);
+out:
+    table[0] = (uint64_t)(row - table) / 4;
+    return refusal;
 }
 
 uint32_t symphedra_sample_count(const uint8_t *file, size_t len, uint64_t *out, size_t words)
@@ -542,39 +583,38 @@ uint32_t symphedra_sample_count(const uint8_t *file, size_t len, uint64_t *out, 
         return SYMPHEDRA_SHORT_OUTPUT;
     uint32_t refusal = scan(file, len, NULL, &s);
     out[0] = out[1] = 0;
-    if (refusal || s.fact_at == 0)
+    if (refusal || s.fact == 0)
         return refusal;
-    uint32_t count = le32(file + s.fact_at);
+    uint32_t count = le32(file + s.fact);
     out[0] = 1;
-    out[1] = s.head.name == RF64 && count == ONES ? s.head.third : count;
+    out[1] = s.form == RF64 && count == ONES ? le64(file + 36) : count;
     return SYMPHEDRA_OK;
 }
 
 /* ---- the upgrade ---- */
 
-static inline uint32_t upgrade(uint8_t *f, size_t len, uint32_t target)
+INLINE uint32_t upgrade(uint8_t *f, size_t len, uint32_t target)
 {
     struct found s;
     uint32_t refusal = scan(f, len, NULL, &s);
     if (refusal)
         return refusal;
-    if (s.head.name != RIFF)
+    if (s.form != RIFF)
         return SYMPHEDRA_ALREADY_64;
     if (le32(f + 12) != JUNK || le32(f + 16) < RESERVE)
         return SYMPHEDRA_NO_RESERVE;
     uint64_t third = 0;
     if (target == RF64)
-        third = s.fact_at ? le32(f + s.fact_at) : s.data_size / s.fmt.block;
+        third = s.fact ? le32(f + s.fact) : s.data_size / s.block;
     put64(f + 20, (uint64_t)len - 8);
     put64(f + 28, s.data_size);
     put64(f + 36, third);
     put32(f + 44, 0);
     put32(f + 12, DS64);
-    if (target == RF64 && s.fact_at)
-        put32(f + s.fact_at, ONES);
-    put32(f + s.data_at - 4, ONES);
-    put32(f + 4, ONES);
-    put32(f, target);
+    if (target == RF64 && s.fact)
+        put32(f + s.fact, ONES);
+    put32(f + s.data - 4, ONES);
+    put64(f, target | (uint64_t)ONES << 32);
     return SYMPHEDRA_OK;
 }
 
