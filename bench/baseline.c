@@ -2,6 +2,9 @@
  * Hand-written C with the checks and the output words of symphedra.h: what the proved library's
  * instruction counts are held against. Not part of the product.
  *
+ * Scan, walk, count and upgrade are as strong as we can write them: one pass, one load and one test for
+ * an ordinary header, names compared only where the first byte is one of b to f.
+ *
  * With -DBASELINE_AS_SYMPHEDRA it has the library's names, to stand in for it.
  */
 #include "baseline.h"
@@ -114,13 +117,13 @@ struct fmt {
 #define GUID_HIGH 0x719B3800AA000080u /* 80 00 00 AA 00 38 9B 71 */
 
 /* What is asked of a record of any size. */
-static inline int fmt_numbers_good(const struct fmt *r)
+INLINE int fmt_numbers_good(const struct fmt *r)
 {
     return r->channels != 0 && r->rate != 0 && ((r->bits - 8) & ~24u) == 0 &&
            r->block == r->channels * (r->bits / 8);
 }
 
-static inline int fmt_read(const uint8_t *p, uint64_t len, struct fmt *r)
+INLINE int fmt_read(const uint8_t *p, uint64_t len, struct fmt *r)
 {
     if (len != 16 && len != 18 && len != 40)
         return 0;
@@ -335,61 +338,70 @@ static inline void entries_put(uint8_t *out, const uint8_t *entries, size_t len)
 /* ---- the chunks ---- */
 
 /*
- * A place is a payload's; its header is the 8 bytes ahead of it. One test finds the chunks that another
- * whole header follows: the next place is at most near. near is the end, or nearer where the file is so
- * long that an all-ones field would pass.
+ * A place is a payload's, an even number; the header is the 8 bytes ahead of it. One test finds the
+ * chunks that another whole header follows: the next place is at most near. near is the end, or nearer
+ * in a file so long that an all-ones field would pass.
  */
-struct place {
+struct walk {
     uint64_t at, next, near;
     uint32_t more; /* chunks that there may be, this one too */
 };
+
+INLINE uint64_t next_place(uint64_t at, uint64_t size)
+{
+    return (at + size + 9) & ~(uint64_t)1;
+}
 
 INLINE uint64_t near_end(uint64_t at, uint64_t len)
 {
     return len - at > ONES ? at + ONES : len;
 }
 
-INLINE uint64_t next_place(uint64_t at, uint64_t size)
+/* A chunk that fails the test: it passes the end, or is the last, or is only long. */
+INLINE uint32_t at_the_end(struct walk *w, uint64_t len)
 {
-    return at + ((size + 1) & ~(uint64_t)1) + 8;
-}
-
-/* For a chunk of that true size which fails the test: it passes the end, or is the last, or is long. */
-INLINE uint32_t at_the_end(struct place *w, uint64_t size, uint64_t len)
-{
-    uint64_t left = len - w->at;
-    if (size > left || (size & 1) > left - size)
+    if (w->next > len + 8)
         return SYMPHEDRA_PAST_END;
-    w->next = next_place(w->at, size);
-    w->near = near_end(w->next, len);
     if (w->next > len)
         w->more = 1;
+    else if (w->near != len)
+        w->near = near_end(w->at, len);
     return SYMPHEDRA_OK;
 }
 
-/* Why no chunk was read at the next place. */
+/* Why no chunk is read at the next place. */
 INLINE uint32_t stop(uint64_t next, uint64_t len)
 {
-    if (next - 8 == len)
+    if (next == len + 8)
         return SYMPHEDRA_OK;
     return next > len ? SYMPHEDRA_CUT_HEADER : SYMPHEDRA_TOO_MANY;
 }
 
-INLINE void put_row(uint64_t *row, uint32_t name, uint64_t at, uint64_t size)
+INLINE uint64_t *put_row(uint64_t *row, uint64_t name, uint64_t at, uint64_t size)
 {
     row[0] = name;
     row[1] = at;
     row[2] = size;
     row[3] = 0;
+    return row + 4;
 }
+
+INLINE size_t bytes_between(const uint64_t *from, const uint64_t *to)
+{
+    return (size_t)((const uint8_t *)to - (const uint8_t *)from);
+}
+
+enum { ROW_BYTES = 4 * sizeof(uint64_t) };
 
 /* ---- the scan ---- */
 
+enum { MET_FMT = 1, MET_DATA = 2, MET_FACT = 4, MET_BEXT = 8, MET_CHNA = 16, BROKEN = 32 };
+
 /* What a scan finds beside its rows; a place of 0 means absent. */
 struct found {
-    uint32_t form, chunks, block;
-    uint64_t fmt, fmt_size, data, data_size, fact, bext, chna;
-    int broken; /* doubled chunks, a short fact */
+    uint32_t form, met, block;
+    uint64_t fmt, fmt_size, data, data_size, fact;
+    uint64_t *end; /* of the rows */
 };
 
 INLINE int ds64_good(const uint8_t *f, uint64_t len)
@@ -423,104 +435,111 @@ INLINE uint32_t read_head(const uint8_t *f, uint64_t len, uint32_t *form)
     return size == len - 8 ? SYMPHEDRA_OK : SYMPHEDRA_BAD_FORM_SIZE;
 }
 
-/* The true size of a chunk whose own field is all ones, in a 64-bit form. */
-INLINE int true_size(const uint8_t *f, uint32_t name, uint64_t *size)
+/* 4 bytes ahead of the true size of a chunk whose own field is all ones, or NULL. */
+static __attribute__((noinline)) const uint8_t *true_entry(const uint8_t *f, uint64_t name)
 {
-    const uint8_t *entry = f + 20 + RESERVE, *end = entry + DS64_ENTRY * le32(f + 44);
-    if (name == DATA) {
-        *size = le64(f + 28);
-        return 1;
-    }
+    if (le32(f) == RIFF)
+        return NULL;
+    if (name == DATA)
+        return f + 28 - 4;
+    const uint8_t *entry = f + 20 + RESERVE, *end = entry + (size_t)DS64_ENTRY * le32(f + 44);
     for (; entry != end; entry += DS64_ENTRY)
-        if (le32(entry) == name) {
-            *size = le64(entry + 4);
-            return 1;
-        }
-    return 0;
+        if (le32(entry) == (uint32_t)name)
+            return entry;
+    return NULL;
+}
+
+/* A chunk that fails the test; its true size is found out first. */
+INLINE uint32_t scan_at_the_end(const uint8_t *f, uint64_t len, struct walk *w, uint64_t name,
+                                uint64_t *size)
+{
+    if (*size == ONES) {
+        const uint8_t *entry = true_entry(f, name);
+        if (!entry)
+            return SYMPHEDRA_UNKNOWN_SIZE;
+        *size = le64(entry + 4);
+        if (*size > len)
+            return SYMPHEDRA_PAST_END;
+        /* next_place, in words that leave gcc the shorter code for the ordinary chunk */
+        w->next = w->at + ((*size + 1) & ~(uint64_t)1) + 8;
+    }
+    return at_the_end(w, len);
+}
+
+INLINE uint32_t once(uint32_t met, uint32_t kind)
+{
+    return met & kind ? met | BROKEN : met | kind;
 }
 
 /* A chunk with a name from b to f; 0 for ds64, which is out of place. */
-INLINE int note(struct found *s, uint32_t name, uint64_t at, uint64_t size)
+INLINE int note(struct found *s, uint64_t name, uint64_t at, uint64_t size)
 {
     if (name == FMT) {
-        s->broken |= s->fmt != 0;
+        s->met = once(s->met, MET_FMT);
         s->fmt = at;
         s->fmt_size = size;
     } else if (name == DATA) {
-        s->broken |= s->data != 0;
+        s->met |= (s->met & (MET_FMT | MET_DATA)) == MET_FMT ? MET_DATA : BROKEN;
         s->data = at;
         s->data_size = size;
     } else if (name == FACT) {
-        s->broken |= s->fact != 0 || size < 4;
+        s->met = size < 4 ? BROKEN : once(s->met, MET_FACT);
         s->fact = at;
     } else if (name == BEXT) {
-        s->broken |= s->bext != 0;
-        s->bext = at;
+        s->met = once(s->met, MET_BEXT);
     } else if (name == CHNA) {
-        s->broken |= s->chna != 0;
-        s->chna = at;
+        s->met = once(s->met, MET_CHNA);
     }
     return name != DS64;
+}
+
+/* Checks 10 to 12. */
+INLINE uint32_t judge(const uint8_t *f, struct found *s)
+{
+    struct fmt fmt;
+    if ((s->met & (MET_DATA | BROKEN)) != MET_DATA)
+        return SYMPHEDRA_BAD_CHUNK_SET;
+    if (!fmt_read(f + s->fmt, s->fmt_size, &fmt))
+        return SYMPHEDRA_BAD_FMT;
+    s->block = fmt.block;
+    return s->data_size % fmt.block == 0 ? SYMPHEDRA_OK : SYMPHEDRA_RAGGED_AUDIO;
 }
 
 /* rows: room for 64, or NULL where they aren't wanted. */
 INLINE uint32_t scan(const uint8_t *f, uint64_t len, uint64_t *rows, struct found *s)
 {
-    struct found none = {0};
-    struct place w;
-    struct fmt fmt;
-    uint64_t *row = rows;
-    *s = none;
+    struct walk w = {.next = 20, .more = SYMPHEDRA_CHUNK_LIMIT};
     uint32_t refusal = read_head(f, len, &s->form);
     if (refusal)
         return refusal;
-    w.more = SYMPHEDRA_CHUNK_LIMIT;
-    w.next = 20;
+    s->met = 0;
+    s->fmt = s->fmt_size = s->data = s->data_size = s->fact = 0;
     if (s->form != RIFF) {
-        uint64_t size = le32(f + 16);
-        w.next = next_place(20, size);
+        w.next = next_place(20, le32(f + 16));
         w.more--;
-        if (rows) {
-            put_row(row, DS64, 20, size);
-            row += 4;
-        }
+        if (rows)
+            rows = put_row(rows, DS64, 20, le32(f + 16));
     }
     if (w.next > len)
-        return w.next - 8 == len ? SYMPHEDRA_BAD_CHUNK_SET : SYMPHEDRA_CUT_HEADER;
+        return w.next == len + 8 ? SYMPHEDRA_BAD_CHUNK_SET : SYMPHEDRA_CUT_HEADER;
     w.near = near_end(w.next, len);
     do {
         w.at = w.next;
-        uint64_t header = le64(f + w.at - 8), size = header >> 32;
-        uint32_t name = (uint32_t)header;
+        uint64_t header = le64(f + w.at - 8), name = header & ONES, size = header >> 32;
         w.next = next_place(w.at, size);
         if (w.next > w.near) {
-            if (name == DS64)
-                return SYMPHEDRA_BAD_DS64;
-            if (size == ONES && (s->form == RIFF || !true_size(f, name, &size)))
-                return SYMPHEDRA_UNKNOWN_SIZE;
-            if (at_the_end(&w, size, len))
-                return SYMPHEDRA_PAST_END;
+            refusal = scan_at_the_end(f, len, &w, name, &size);
+            if (refusal)
+                return name == DS64 ? SYMPHEDRA_BAD_DS64 : refusal;
         }
-        if (rows) {
-            put_row(row, name, w.at, size);
-            row += 4;
-        }
-        if ((uint8_t)(header - 'b') <= 'f' - 'b' && !note(s, name, w.at, size))
+        if (rows)
+            rows = put_row(rows, name, w.at, size);
+        if ((uint8_t)(name - 'b') <= 'f' - 'b' && !note(s, name, w.at, size))
             return SYMPHEDRA_BAD_DS64;
     } while (--w.more);
+    s->end = rows;
     refusal = stop(w.next, len);
-    if (refusal)
-        return refusal;
-    if (s->fmt == 0 || s->data < s->fmt || s->broken)
-        return SYMPHEDRA_BAD_CHUNK_SET;
-    if (!fmt_read(f + s->fmt, s->fmt_size, &fmt))
-        return SYMPHEDRA_BAD_FMT;
-    if (s->data_size % fmt.block != 0)
-        return SYMPHEDRA_RAGGED_AUDIO;
-    s->block = fmt.block;
-    if (rows)
-        s->chunks = (uint32_t)(row - rows) / 4;
-    return SYMPHEDRA_OK;
+    return refusal ? refusal : judge(f, s);
 }
 
 uint32_t symphedra_scan(const uint8_t *file, size_t len, uint64_t *table, size_t words)
@@ -530,17 +549,19 @@ uint32_t symphedra_scan(const uint8_t *file, size_t len, uint64_t *table, size_t
     if (words < SYMPHEDRA_TABLE_WORDS)
         return SYMPHEDRA_SHORT_OUTPUT;
     uint32_t refusal = scan(file, len, rows, &s);
-    table[0] = 0;
-    if (refusal)
+    if (refusal) {
+        table[0] = 0;
         return refusal;
-    table[0] = s.chunks;
-    memcpy(table + 1, rows, s.chunks * 4 * sizeof rows[0]);
+    }
+    size_t bytes = bytes_between(rows, s.end);
+    table[0] = bytes / ROW_BYTES;
+    memcpy(table + 1, rows, bytes);
     return SYMPHEDRA_OK;
 }
 
 uint32_t symphedra_walk32(const uint8_t *file, size_t len, uint64_t *table, size_t words)
 {
-    struct place w;
+    struct walk w = {.next = 20, .more = SYMPHEDRA_CHUNK_LIMIT};
     uint64_t *row = table + 1;
     uint32_t refusal;
     if (words < SYMPHEDRA_TABLE_WORDS)
@@ -555,24 +576,21 @@ uint32_t symphedra_walk32(const uint8_t *file, size_t len, uint64_t *table, size
         return SYMPHEDRA_BAD_FORM_SIZE;
     if (len < 20)
         return len == 12 ? SYMPHEDRA_OK : SYMPHEDRA_CUT_HEADER;
-    w.more = SYMPHEDRA_CHUNK_LIMIT;
-    w.next = 20;
     w.near = near_end(w.next, len);
     do {
         w.at = w.next;
         uint64_t header = le64(file + w.at - 8), size = header >> 32;
         w.next = next_place(w.at, size);
         if (w.next > w.near) {
-            refusal = size == ONES ? SYMPHEDRA_UNKNOWN_SIZE : at_the_end(&w, size, len);
+            refusal = size == ONES ? SYMPHEDRA_UNKNOWN_SIZE : at_the_end(&w, len);
             if (refusal)
                 goto out;
         }
-        put_row(row, (uint32_t)header, w.at, size);
-        row += 4;
+        row = put_row(row, header & ONES, w.at, size);
     } while (--w.more);
     refusal = stop(w.next, len);
 out:
-    table[0] = (uint64_t)(row - table) / 4;
+    table[0] = bytes_between(table, row) / ROW_BYTES;
     return refusal;
 }
 
