@@ -2,7 +2,7 @@
  * The library beside the hand-written C of baseline.c, on the same inputs.
  *
  * bench counts        under callgrind: one dump for each call, named LIBRARY-OR-BASELINE/CASE
- * bench times FILE    scan beside libsndfile's sf_open, the file writer beside memcpy; FILE is made
+ * bench times FILE    scan beside libsndfile's sf_open, the file writer beside memcpy by size; FILE is made
  *
  * Both sides are called through a table of pointers, and their outputs compared.
  */
@@ -361,40 +361,49 @@ static void beside_sndfile(const char *path)
     free(file);
 }
 
+enum { WRITE_SIZES = 5, COPIED_A_ROUND = 64 << 20 };
+
+/* The writer beside a memcpy of the audio to the same place, byte 80, and the baseline's writer. */
 static void beside_memcpy(void)
 {
-    const size_t audio_len = 256u << 20, out_len = audio_len + 80;
+    static const struct { const char *name; size_t bytes; } sizes[WRITE_SIZES] = {
+        {"4 KiB", 4 << 10}, {"64 KiB", 64 << 10}, {"1 MiB", 1 << 20},
+        {"16 MiB", 16 << 20}, {"256 MiB", 256 << 20},
+    };
     static const uint64_t fmt[9] = {16, 1, 2, 48000, 192000, 4, 16, 0, 0};
-    uint8_t *audio = room(audio_len), *out = room(out_len);
-    uint64_t written;
-    double aligned[ROUNDS], copy[ROUNDS], write[2][ROUNDS];
-    const struct side *sides[] = {&library, &baseline};
-    for (int round = 0; round < ROUNDS; round++) {
-        double start = now();
-        memcpy(out, audio, audio_len);
-        aligned[round] = now() - start;
-        start = now();
-        memcpy(out + 80, audio, audio_len);
-        copy[round] = now() - start;
-        for (int s = 0; s < 2; s++) {
-            start = now();
-            uint32_t number = sides[s]->write_riff(fmt, 9, NULL, 0, NULL, 0, audio, audio_len, out,
-                                                   out_len, &written, 1);
-            write[s][round] = now() - start;
-            if (number != 0 || written != out_len)
-                fail("the writer refused");
-            if (memcmp(out + 80, audio, audio_len) != 0)
-                fail("the audio differs");
+    void *(*volatile copy)(void *, const void *, size_t) = memcpy;
+    printf("audio written, all memory touched before, microseconds a call\n");
+    printf("  %-34s %10s %10s %10s   %s\n", "", "memcpy", "library", "C", "library's speed, memcpy 1");
+    for (int i = 0; i < WRITE_SIZES; i++) {
+        size_t audio_len = sizes[i].bytes, out_len = audio_len + 80;
+        int calls = audio_len < COPIED_A_ROUND ? (int)(COPIED_A_ROUND / audio_len) : 1;
+        uint8_t *audio = room(audio_len), *out = room(out_len);
+        uint64_t written;
+        double plain[ROUNDS], writer[2][ROUNDS];
+        const struct side *sides[] = {&library, &baseline};
+        for (int round = 0; round < ROUNDS; round++) {
+            double start = now();
+            for (int call = 0; call < calls; call++)
+                copy(out + 80, audio, audio_len);
+            plain[round] = (now() - start) / calls;
+            for (int s = 0; s < 2; s++) {
+                memset(out, 2, out_len);
+                start = now();
+                for (int call = 0; call < calls; call++)
+                    if (sides[s]->write_riff(fmt, 9, NULL, 0, NULL, 0, audio, audio_len, out, out_len,
+                                             &written, 1) != 0)
+                        fail("the writer refused");
+                writer[s][round] = (now() - start) / calls;
+                if (written != out_len || memcmp(out + 80, audio, audio_len) != 0)
+                    fail("the audio differs");
+            }
         }
+        double theirs = median(plain), ours = median(writer[0]), c = median(writer[1]);
+        printf("  %-34s %10.2f %10.2f %10.2f   %.2f\n", sizes[i].name, 1e6 * theirs, 1e6 * ours, 1e6 * c,
+               theirs / ours);
+        free(audio);
+        free(out);
     }
-    double best = median(aligned), plain = median(copy), ours = median(write[0]), theirs = median(write[1]);
-    printf("256 MiB of audio, buffers touched before, milliseconds; speed beside the first and the second\n");
-    printf("  %-34s %8.1f\n", "memcpy to byte 80, as in a file", 1e3 * plain);
-    printf("  %-34s %8.1f\n", "memcpy to byte 0, both aligned", 1e3 * best);
-    printf("  %-34s %8.1f   %.2f and %.2f\n", "write_riff, library", 1e3 * ours, plain / ours, best / ours);
-    printf("  %-34s %8.1f   %.2f and %.2f\n", "write_riff, baseline", 1e3 * theirs, plain / theirs, best / theirs);
-    free(audio);
-    free(out);
 }
 
 int main(int argc, char **argv)
