@@ -31,7 +31,8 @@ use Rattle.form.proofs.Sizes.{true-own, true-ds64, true-data, own-true, riff-ow
 use Rattle.fmt.specs.declared.Format.{Format}
 use Rattle.wave.specs.Scans.{Scan, scan, payload, judged, factCount, samplesIn, samplesOf, walk32}
 use Rattle.wave.specs.declared.Samples.the-variants as samples
-use Rattle.wave.specs.Demand3.{ownField, Sized}
+use Rattle.wave.specs.Tables.{ownField}
+use Rattle.wave.specs.Demand3.{Sized}
 use Rattle.wave.proofs.Scanned.{scanned-scan}
 use Rattle.wave.proofs.Counts.{fact-riff, fact-bw64, fact-third, samples-none, samples-fact, samples-given}
 use Rattle.wave.proofs.FirstHalf.{first-half}

@@ -23,7 +23,8 @@ use Rattle.form.specs.Sizes.{trueSize, entriesOf}
 use Rattle.form.proofs.Heads.{opened-32}
 use Rattle.form.proofs.Sizes.{own-true}
 use Rattle.wave.specs.Scans.{Scan, scan, walkFrom, walk32}
-use Rattle.wave.specs.Demand3.{ownField, ahead, stop, Sized, FirstHalf}
+use Rattle.wave.specs.Tables.{ownField}
+use Rattle.wave.specs.Demand3.{ahead, stop, Sized, FirstHalf}
 use Rattle.wave.proofs.Scanned.{scan-scanned}
 
 -- ---- the rows ahead, and the end

@@ -15,7 +15,7 @@ use Rattle.form.specs.Sizes.{trueSize, entriesOf}
 use Rattle.form.proofs.Heads.{wide-head, ds64-rules}
 use Rattle.form.proofs.Sizes.{own-true, ds64-first}
 use Rattle.wave.specs.Scans.{Scan, scan}
-use Rattle.wave.specs.Demand3.{ownField, EndToEnd, GoodTable}
+use Rattle.wave.specs.Tables.{ownField, EndToEnd, GoodTable}
 use Rattle.wave.proofs.Scanned.{scan-scanned}
 
 laid-ends : {rule : Rule} {s : List ℕ} {at : ℕ} {rows : List Entry} → Laid rule s at rows → EndToEnd at rows (length s)

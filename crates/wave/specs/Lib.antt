@@ -1,4 +1,5 @@
 pub mod Scans
+pub mod Tables
 pub mod Demand3
 pub mod Tallies
 pub mod Words
