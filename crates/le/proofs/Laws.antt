@@ -162,13 +162,17 @@ bytes-number n at s b h =
     (λ (i : ℕ). subst (λ (k : ℕ). k < 256) (sym (getD-drop at s i 0)) (b (at + i)))
     (simp length-drop (omega arith))
 
--- what stands from a place on is the number there, and what stands after it
+-- what stands from a place on is the field there, and what stands after it
+pub field-then : (n at : ℕ) (s : List ℕ) → drop at s ≡ field n at s ++ drop (at + n) s
+unfolding field
+field-then n at s =
+    sym (take-append-drop n (drop at s)) ∙ ap (λ (l : List ℕ). take n (drop at s) ++ l) (drop-drop n at s)
+
+-- where it is bytes, the number there, and what stands after it
 pub number-then : (n at : ℕ) (s : List ℕ) → Bytes s → at + n ≤ length s
     → drop at s ≡ bytes n (number n at s) ++ drop (at + n) s
-unfolding field
 number-then n at s b h =
-    sym (take-append-drop n (drop at s))
-    ∙ ap₂ _++_ (sym (bytes-number n at s b h)) (drop-drop n at s)
+    field-then n at s ∙ ap (λ (l : List ℕ). l ++ drop (at + n) s) (sym (bytes-number n at s b h))
 
 -- ---- runs of bytes
 
@@ -183,3 +187,17 @@ unfolding Bytes
 Bytes-append [] b ha hb i = hb i
 Bytes-append (x ∷ a) b ha hb zero = ha 0
 Bytes-append (x ∷ a) b ha hb (suc i) = Bytes-append a b (λ j. ha (suc j)) hb i
+
+-- ---- what stands at a place, where the list from there on is known
+
+pub number-at : (n at v : ℕ) (s ys : List ℕ) → v < 256 ^ n → drop at s ≡ bytes n v ++ ys → number n at s ≡ v
+unfolding number field
+number-at n at v s ys h e =
+    ap (λ (l : List ℕ). value (take n l)) e ∙ ap value (take-at (bytes n v) ys n (bytes-length n v)) ∙ value-bytes n v h
+
+pub drop-past : (n at : ℕ) (s xs ys : List ℕ) → length xs ≡ n → drop at s ≡ xs ++ ys → drop (at + n) s ≡ ys
+drop-past n at s xs ys h e = sym (drop-drop n at s) ∙ ap (drop n) e ∙ drop-at xs ys n h
+
+pub field-at : (n at : ℕ) (s xs ys : List ℕ) → length xs ≡ n → drop at s ≡ xs ++ ys → field n at s ≡ xs
+unfolding field
+field-at n at s xs ys h e = ap (take n) e ∙ take-at xs ys n h

@@ -9,7 +9,7 @@ use native.Mathlib.Omega.{arith}
 use lib.ListN.{length, drop, replicate}
 use lib.Dec.{lit<}
 use Rattle.le.specs.Number.{bytes, number}
-use Rattle.le.proofs.Laws.{bytes-length}
+use Rattle.le.proofs.Laws.{bytes-length, number-at, drop-past}
 use Rattle.chunk.specs.Names.{WAVE, DS64, JUNK, DATA}
 use Rattle.chunk.specs.Fields.{ONES}
 use Rattle.chunk.specs.Refusals.{given}
@@ -26,7 +26,7 @@ use Rattle.writer.specs.Files.{chunkWith, chunkBytes, firstChunk, ownFie
 use Rattle.writer.specs.Parts.{chunkSize}
 use Rattle.writer.specs.WayBack.{firstName}
 use Rattle.writer.proofs.Sizes.{opening-length}
-use Rattle.writer.proofs.Places.{number-at, drop-past, Stands, stands}
+use Rattle.writer.proofs.Places.{Stands, stands}
 
 -- ---- the fields
 

@@ -7,12 +7,11 @@ use mathlib.Core.List.{List, [], _∷_, _++_, append-assoc}
 use Prim.Native.Nat.{ℕ, _+_, _%_, _^_, _≤_, _<_}
 use native.Mathlib.Nat.{add-zero}
 use native.Mathlib.Omega.{arith}
-use lib.ListN.{length, take, drop, length-append, length-drop}
-use lib.Seq.{drop-drop, take-at, drop-at}
+use lib.ListN.{length, drop, length-append, length-drop}
 use lib.Dec.{eqb}
 use borrow.Author.Tests.{eq-eqb, ne-eqb, eqb-true, eqb-false}
-use Rattle.le.specs.Number.{bytes, value, field, number}
-use Rattle.le.proofs.Laws.{bytes-length, value-bytes}
+use Rattle.le.specs.Number.{bytes, field, number}
+use Rattle.le.proofs.Laws.{bytes-length, number-at, drop-past, field-at}
 use Rattle.chunk.specs.declared.Entry.{Entry}
 use Rattle.chunk.specs.Refusals.{given}
 use Rattle.chunk.specs.Walks.{Rule, past}
@@ -22,20 +21,6 @@ use Rattle.writer.specs.Files.{padOf, chunkWith, chunkBytes, optional}
 use Rattle.writer.specs.Parts.{chunkSize, optionalSize}
 use Rattle.writer.specs.WayBack.{entry, rowFor}
 use Rattle.writer.proofs.Sizes.{chunk-length, optional-some, optional-length, size-none, size-some}
-
--- ---- what stands at a place
-
-pub number-at : (n at v : ℕ) (s ys : List ℕ) → v < 256 ^ n → drop at s ≡ bytes n v ++ ys → number n at s ≡ v
-unfolding number field
-number-at n at v s ys h e =
-    ap (λ (l : List ℕ). value (take n l)) e ∙ ap value (take-at (bytes n v) ys n (bytes-length n v)) ∙ value-bytes n v h
-
-pub drop-past : (n at : ℕ) (s xs ys : List ℕ) → length xs ≡ n → drop at s ≡ xs ++ ys → drop (at + n) s ≡ ys
-drop-past n at s xs ys h e = sym (drop-drop n at s) ∙ ap (drop n) e ∙ drop-at xs ys n h
-
-pub field-at : (n at : ℕ) (s xs ys : List ℕ) → length xs ≡ n → drop at s ≡ xs ++ ys → field n at s ≡ xs
-unfolding field
-field-at n at s xs ys h e = ap (take n) e ∙ take-at xs ys n h
 
 -- ---- a chunk
 
