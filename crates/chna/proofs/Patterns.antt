@@ -1,18 +1,18 @@
 -- The laws of patterns: a pattern in two parts asks each part of its own bytes, a part with no x is the number of its
 -- characters, and each pattern of an entry is thus the tests that the code makes.
 -- Assumes nothing.
-use mathlib.Core.Path.{_≡_, refl, sym, ap, ap₂, _∙_, subst}
+use mathlib.Core.Path.{_≡_, refl, sym, ap, ap₂, _∙_}
 use mathlib.Core.Bool.{true≢false, Bool, true, false, not, _&&_, _||_}
 use mathlib.Core.List.{List, [], _∷_, _++_}
 use Prim.Native.Nat.{ℕ, zero, suc, _+_, _*_, _≤_, _<_}
 use native.Mathlib.Omega.{arith}
 use lib.ListN.{length, take, drop, getD, replicate}
-use lib.Seq.{take-add, drop-drop, drop-cons, getD-drop, take-all}
+use lib.Seq.{take-add, drop-drop, drop-cons, take-all}
 use lib.Dec.{eqb, ltb, lit<}
 use borrow.Author.Tests.{eq-eqb, ne-eqb, eqb-true, eqb-false, ltb-true, not-true}
 use Rattle.le.specs.Number.{Bytes, value, field, number}
 use Rattle.le.specs.Choice.{pick}
-use Rattle.le.proofs.Laws.{field-length}
+use Rattle.le.proofs.Laws.{field-length, Bytes-drop}
 use Rattle.chna.specs.Ids.{isHex, fitsOne, fits, codes, hexes, UNUSED, UID, TRACK, CHANNEL, PACK, NOPACK}
 
 -- ---- two tests, the second asked where the first holds
@@ -129,7 +129,7 @@ bytes-take (suc n) (x ∷ l) h (suc i) = bytes-take n l (λ j. h (suc j)) i
 pub bytes-field : (n at : ℕ) (s : List ℕ) → Bytes s → Bytes (field n at s)
 unfolding Bytes field
 bytes-field n at s h =
-    bytes-take n (drop at s) (λ (i : ℕ). subst (λ (k : ℕ). k < 256) (sym (getD-drop at s i 0)) (h (at + i)))
+    bytes-take n (drop at s) (Bytes-drop at s h)
 
 pub first : (a b : Bool) → a && b ≡ true → a ≡ true
 first true b e = refl

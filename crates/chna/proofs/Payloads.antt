@@ -1,39 +1,20 @@
 -- The bytes of a record that was read from bytes are those bytes, but for the pads.
 -- Assumes nothing.
-use mathlib.Core.Path.{_≡_, refl, sym, ap, ap₂, _∙_, subst}
+use mathlib.Core.Path.{_≡_, refl, sym, ap, ap₂, _∙_}
 use mathlib.Core.Bool.{true≢false, Bool, true, false}
 use mathlib.Core.List.{List, [], _∷_, _++_}
-use Prim.Native.Nat.{ℕ, zero, suc, _+_, _*_, _/_, _%_, _≤_, _<_}
+use Prim.Native.Nat.{ℕ, zero, suc, _*_, _/_, _%_, _≤_}
 use native.Mathlib.Omega.{arith}
 use lib.ListN.{length, set, take, drop, replicate, length-drop, drop-of-length-le}
-use lib.Seq.{getD-drop, set-split, take-add, length-take-le}
+use lib.Seq.{set-split, take-add, length-take-le}
 use lib.Dec.{eqb}
 use borrow.Author.Tests.{eqb-true}
-use Rattle.le.specs.Number.{Bytes, value, bytes, field, number, stored}
+use Rattle.le.specs.Number.{Bytes, bytes, field, stored}
 use Rattle.le.specs.Choice.{pick}
-use Rattle.le.proofs.Laws.{field-length}
+use Rattle.le.proofs.Laws.{Bytes-drop, bytes-number}
 use Rattle.chna.specs.Ids.{fitsOne, fits, UNUSED}
 use Rattle.chna.specs.Records.{unused, used, usedIn, entryIn, entryBytes, entriesAt, entriesIn, entriesBytes, wholeOf, payloadOf, padsAt, padsOff}
 use Rattle.chna.proofs.Patterns.{both-first, both-second, bytes-field}
-
--- a number of bytes gives the bytes back
-bytes-value : (l : List ℕ) → Bytes l → bytes (length l) (value l) ≡ l
-unfolding bytes value Bytes
-bytes-value [] h = refl
-bytes-value (b ∷ l) h =
-    let low : (b + 256 * value l) % 256 ≡ b = omega (arith, h 0) in
-    let high : (b + 256 * value l) / 256 ≡ value l = omega (arith, h 0) in
-    ap₂ (λ (x : ℕ) (y : List ℕ). x ∷ y) low (ap (bytes (length l)) high ∙ bytes-value l (λ i. h (suc i)))
-
-pub bytes-number : (n at : ℕ) (s : List ℕ) → Bytes s → at + n ≤ length s → bytes n (number n at s) ≡ field n at s
-unfolding number
-bytes-number n at s h k =
-    subst (λ (m : ℕ). bytes m (value (field n at s)) ≡ field n at s) (field-length n at s k)
-    (bytes-value (field n at s) (bytes-field n at s h))
-
-pub bytes-drop : (n : ℕ) (s : List ℕ) → Bytes s → Bytes (drop n s)
-unfolding Bytes
-bytes-drop n s h i = subst (λ (k : ℕ). k < 256) (sym (getD-drop n s i 0)) (h (n + i))
 
 -- zeros are all that fits a pattern of zeros
 pub zeros-only : (n : ℕ) (l : List ℕ) → fits (replicate n 0) l ≡ true → l ≡ replicate n 0
@@ -76,7 +57,7 @@ entries-bytes zero (b ∷ s) h e = absurd (omega arith)
 entries-bytes (suc n) s h e =
     ap₂ (λ (a b : List ℕ). a ++ b)
     (entry-bytes (take 40 s) (bytes-field 40 0 s h) (length-take-le 40 s (omega arith)))
-    (entries-bytes n (drop 40 s) (bytes-drop 40 s h) (omega (arith, length-drop 40 s)))
+    (entries-bytes n (drop 40 s) (Bytes-drop 40 s h) (omega (arith, length-drop 40 s)))
 
 pub payload-bytes : (tracks uids : ℕ) (s : List ℕ) → Bytes s → length s % 40 ≡ 0
     → payloadOf (wholeOf tracks uids s) ≡ bytes 2 tracks ++ bytes 2 uids ++ padsOff s

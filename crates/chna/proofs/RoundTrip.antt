@@ -18,7 +18,8 @@ use Rattle.chna.specs.Records.{entriesIn, entriesAt, entriesGood, entryI
 use Rattle.chna.proofs.Patterns.{first, second}
 use Rattle.chna.proofs.Answers.{checked, check-given, given-same, good-record, accepted}
 use Rattle.chna.proofs.Back.{payload-length, payload-back, Sound, sound}
-use Rattle.chna.proofs.Payloads.{bytes-number, bytes-drop, payload-bytes}
+use Rattle.le.proofs.Laws.{Bytes-drop, bytes-number}
+use Rattle.chna.proofs.Payloads.{payload-bytes}
 
 -- ---- writing, then reading
 
@@ -62,7 +63,7 @@ read-writes-back channels p w h e =
     subst (λ (x : Whole). chnaOut channels x ≡ given (padsZeroed p)) (a .is)
     (checked (wholeGood channels (wholeIn p)) BadRecord _ (a .good)
     ∙ ap given
-    (payload-bytes (number 2 0 p) (number 2 2 p) (drop 4 p) (bytes-drop 4 p h) (omega (arith, length-drop 4 p, n .1))
+    (payload-bytes (number 2 0 p) (number 2 2 p) (drop 4 p) (Bytes-drop 4 p h) (omega (arith, length-drop 4 p, n .1))
     ∙ ap (λ (l : List ℕ). l ++ padsOff (drop 4 p)) (counts p h (n .0))))
 
 -- so a payload with its pads zeroed holds the same record

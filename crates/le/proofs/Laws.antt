@@ -61,10 +61,13 @@ value-bound zero l h = omega (arith, pow-zero 256)
 value-bound (suc n) [] h = omega (arith, pow-succ' 256 n, value-bound n [] (λ i. lit< tt))
 value-bound (suc n) (x ∷ l) h = omega (arith, h 0, pow-succ' 256 n, value-bound n l (λ i. h (suc i)))
 
+pub Bytes-drop : (n : ℕ) (s : List ℕ) → Bytes s → Bytes (drop n s)
+unfolding Bytes
+Bytes-drop n s b i = subst (λ (k : ℕ). k < 256) (sym (getD-drop n s i 0)) (b (n + i))
+
 pub number-bound : (n at : ℕ) (s : List ℕ) → Bytes s → number n at s < 256 ^ n
 unfolding number field Bytes
-number-bound n at s b =
-    value-bound n (drop at s) (λ (i : ℕ). subst (λ (k : ℕ). k < 256) (sym (getD-drop at s i 0)) (b (at + i)))
+number-bound n at s b = value-bound n (drop at s) (Bytes-drop at s b)
 
 -- ---- stores
 
@@ -157,10 +160,7 @@ bytes-value (suc n) (x ∷ l) b h =
 
 pub bytes-number : (n at : ℕ) (s : List ℕ) → Bytes s → at + n ≤ length s → bytes n (number n at s) ≡ field n at s
 unfolding number field Bytes
-bytes-number n at s b h =
-    bytes-value n (drop at s)
-    (λ (i : ℕ). subst (λ (k : ℕ). k < 256) (sym (getD-drop at s i 0)) (b (at + i)))
-    (simp length-drop (omega arith))
+bytes-number n at s b h = bytes-value n (drop at s) (Bytes-drop at s b) (simp length-drop (omega arith))
 
 -- what stands from a place on is the field there, and what stands after it
 pub field-then : (n at : ℕ) (s : List ℕ) → drop at s ≡ field n at s ++ drop (at + n) s
