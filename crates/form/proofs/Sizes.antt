@@ -29,11 +29,11 @@ in-place true true false e p = absurd (true-false true refl e)
 in-place true false x e p = absurd (true-false true refl e)
 in-place false w x e p = absurd (true-false false p refl)
 
-other-placed : (f : Form) (at name : ℕ) → (name ≡ DS64 → ⊥) → strayDs64 f at name ≡ false
+pub other-placed : (f : Form) (at name : ℕ) → (name ≡ DS64 → ⊥) → strayDs64 f at name ≡ false
 unfolding strayDs64
 other-placed f at name k = rw (ne-eqb name DS64 k)
 
-first-placed : (f : Form) → isWide f ≡ true → strayDs64 f 12 DS64 ≡ false
+pub first-placed : (f : Form) → isWide f ≡ true → strayDs64 f 12 DS64 ≡ false
 unfolding strayDs64
 first-placed f w = rw w
 

@@ -1,6 +1,9 @@
+pub mod AcceptsExactly
 pub mod Counts
+pub mod Ds64Sizes
 pub mod Ends
 pub mod FirstHalf
+pub mod GoodFiles
 pub mod Loops
 pub mod Notes
 pub mod Scanned

@@ -3,14 +3,13 @@
 -- Assumes nothing.
 use mathlib.Core.Path.{_≡_, refl, sym, _∙_, subst}
 use mathlib.Core.List.{List, [], _∷_, _++_, List·Memᴰ}
-use Prim.Native.Nat.{ℕ, _+_, _-_, _≤_}
+use Prim.Native.Nat.{ℕ, _-_, _≤_}
 use native.Mathlib.Omega.{arith}
 use lib.ListN.{length}
-use Rattle.le.specs.Number.{number}
 use Rattle.chunk.specs.declared.Entry.{Entry}
 use Rattle.chunk.specs.Refusals.{given}
 use Rattle.chunk.specs.Walks.{Rule, past}
-use Rattle.chunk.proofs.Laid.{Laid, done, next, laid-lies}
+use Rattle.chunk.proofs.Laid.{Row, Laid, done, next, laid-lies}
 use Rattle.form.specs.Sizes.{trueSize, entriesOf}
 use Rattle.form.proofs.Heads.{wide-head, ds64-rules}
 use Rattle.form.proofs.Sizes.{own-true, ds64-first}
@@ -28,10 +27,10 @@ laid-later : {rule : Rule} {s : List ℕ} {at : ℕ} (xs : List Entry) (e : Entr
 laid-later [] e ys (next r l) f m = omega (arith, laid-lies l m .after)
 laid-later (x ∷ xs) e ys (next r l) f m = laid-later xs e ys l f m
 
-laid-first : {rule : Rule} {s : List ℕ} {at : ℕ} (rows : List Entry) → Laid rule s at rows → (at ≡ length s → ⊥)
-    → (e : Entry) × (es : List Entry) × (rows ≡ e ∷ es) × (e .name ≡ number 4 at s) × (e .place ≡ at + 8)
+pub laid-first : {rule : Rule} {s : List ℕ} {at : ℕ} (rows : List Entry) → Laid rule s at rows → (at ≡ length s → ⊥)
+    → (e : Entry) × (es : List Entry) × (rows ≡ e ∷ es) × Row rule s at e × Laid rule s (past e) es
 laid-first [] (done h) k = absurd (k h)
-laid-first (e ∷ es) (next r l) k = (e, es, refl, sym (r .named), r .place)
+laid-first (e ∷ es) (next r l) k = (e, es, refl, r, l)
 
 pub tables : (s : List ℕ) (a : Scan) → scan s ≡ given a → GoodTable s a
 unfolding ownField
@@ -53,7 +52,7 @@ tables s a e =
       wide = λ w.
           let r = ds64-rules _ _ _ _ (wide-head (a .head .form) s (a .head) w (l .opened .head) .0) in
           let f = laid-first (a .rows) (l .laid) (omega arith) in
-          (f .0, f .1, f .2, f .3 ∙ r .named, f .4);
+          (f .0, f .1, f .2, sym (f .3 .named) ∙ r .named, f .3 .place);
       ds64 = λ x m h.
           let r = laid-lies (l .laid) m in
           let c = ds64-first (a .head) ks (x .place - 8) (x .name) (ownField s x) (x .size) (r .sized) h in

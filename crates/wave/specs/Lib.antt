@@ -1,5 +1,6 @@
 pub mod Scans
 pub mod Tables
+pub mod Grammar
 pub mod Demand3
 pub mod Tallies
 pub mod Words
