@@ -1,19 +1,19 @@
 -- What each rule of a payload says of the reader's answer: one that is broken is 13, and none broken is the record.
 -- Assumes nothing.
-use mathlib.Core.Path.{_≡_, refl, sym, ap, _∙_}
+use mathlib.Core.Path.{_≡_, refl, sym, _∙_}
 use mathlib.Core.Bool.{Bool, true, false, not, _||_}
 use mathlib.Core.List.{List, [], _∷_}
 use Prim.Native.Nat.{ℕ, zero, suc, _≤_}
 use native.Mathlib.Omega.{arith}
 use lib.ListN.{length, drop, getD}
-use lib.Dec.{eqb, leb}
+use lib.Dec.{eqb}
 use borrow.Author.Tests.{le-leb}
 use Rattle.le.specs.Number.{field, number}
-use Rattle.le.specs.Choice.{pick, every}
+use Rattle.le.specs.Choice.{every}
 use Rattle.chunk.specs.declared.Refusal.the-variants.{BadBext}
-use Rattle.chunk.specs.Refusals.{check, given, refused}
 use Rattle.chunk.proofs.Checks.{true-false}
-use Rattle.bext.specs.Records.{allZero, textOf, textGood, dateGood, timeGood, restGood, setOf, partOf, rulesOf, wholeIn, bextIn, readAs, numbersOf}
+use Rattle.bext.specs.Records.{allZero, textOf, textGood, dateGood, timeGood, restGood, setOf, rulesOf, wholeIn, bextIn, readAs, numbersOf}
+use Rattle.bext.specs.Contracts.{partOf}
 use Rattle.bext.specs.declared.Part.{Part}
 use Rattle.bext.specs.declared.Part.the-variants as part
 use Rattle.bext.specs.declared.Reading.the-variants as reading

@@ -1,21 +1,21 @@
 -- A record that could have been read: its rules one by one, that its parts fit their places, and what the writer answers
 -- and leaves for it.
 -- Assumes nothing.
-use mathlib.Core.Path.{_≡_, refl, sym, ap, _∙_}
+use mathlib.Core.Path.{_≡_, refl}
 use mathlib.Core.Bool.{Bool, true, false, _&&_, _||_}
 use mathlib.Core.List.{List, _++_}
-use Prim.Native.Nat.{ℕ, _+_, _^_, _≤_, _<_}
+use Prim.Native.Nat.{ℕ, _^_, _≤_, _<_}
 use native.Mathlib.Omega.{arith}
-use borrow.Author.Tests.{leb-true, ltb-true, eqb-true, eqb-false, le-leb, lt-leb}
+use borrow.Author.Tests.{leb-true, eqb-true, le-leb, lt-leb}
 use lib.ListN.{length, drop}
 use lib.Dec.{eqb, leb, ltb}
 use Rattle.chunk.specs.declared.Refusal.the-variants.{BadRecord, ShortOutput}
 use Rattle.chunk.specs.declared.Written.the-variants as written
-use Rattle.chunk.specs.Refusals.{check, andThen}
 use Rattle.chunk.specs.Writes.{fitting, writtenOf, outputOf}
 use Rattle.chunk.proofs.Checks.{and-true}
 use Rattle.bext.specs.Records.{Whole, dateGood, timeGood, restGood, textGood, textOf}
-use Rattle.bext.specs.Writing.{textGiven, dateGiven, timeGiven, restGiven, writable, laid, bextOut, Fitting, Writes}
+use Rattle.bext.specs.Writing.{textGiven, dateGiven, timeGiven, restGiven, writable, laid, bextOut, Writes}
+use Rattle.bext.specs.Contracts.{Fitting}
 
 -- ---- the rules, as far as each of them
 

@@ -2,24 +2,25 @@
 -- same bytes, and so an accepted payload has one record, and a record one payload.
 -- Assumes nothing.
 use mathlib.Core.Path.{_≡_, refl, sym, ap, ap₂, _∙_}
-use mathlib.Core.Bool.{Bool, true, false, _||_, _&&_}
-use mathlib.Core.List.{List, [], _∷_, _++_, append-assoc}
-use Prim.Native.Nat.{ℕ, _+_, _^_, _≤_, _<_}
+use mathlib.Core.Bool.{Bool, true, false, _||_}
+use mathlib.Core.List.{List, _∷_, _++_, append-assoc}
+use Prim.Native.Nat.{ℕ, _+_, _^_, _≤_}
 use native.Mathlib.Omega.{arith}
 use borrow.Author.Tests.{le-leb, leb-true, lt-ltb, ltb-true, eq-eqb, eqb-true}
 use lib.ListN.{length, take, drop, take-append-drop}
 use lib.Seq.{take-at, drop-at, drop-drop, take-add}
-use lib.Dec.{eqb, leb, ltb, lit≤}
+use lib.Dec.{eqb, leb, lit≤}
 use Rattle.le.specs.Number.{Bytes, bytes, field, number, value}
 use Rattle.le.specs.Choice.{pick, every}
 use Rattle.le.proofs.Laws.{value-bytes, bytes-number, bytes-length, field-length, number-bound}
 use Rattle.chunk.specs.declared.Refusal.the-variants.{BadBext, BadRecord, ShortOutput}
 use Rattle.chunk.specs.declared.Written.the-variants as written
-use Rattle.chunk.specs.Refusals.{Answer, given, refused, check}
+use Rattle.chunk.specs.Refusals.{Answer, given, refused}
 use Rattle.chunk.specs.Writes.{fitting, writtenOf, outputOf}
 use Rattle.chunk.proofs.Checks.{given-inj, check-given, check-true, rule-and, and-true}
-use Rattle.bext.specs.Records.{Whole, allZero, textOf, textGood, dateGood, timeGood, restGood, setOf, rulesOf, wholeIn, bextIn}
-use Rattle.bext.specs.Writing.{textGiven, dateGiven, timeGiven, restGiven, writable, padded, laid, bextOut, Fitting, Writes}
+use Rattle.bext.specs.Records.{Whole, allZero, textOf, textGood, dateGood, timeGood, restGood, rulesOf, wholeIn, bextIn}
+use Rattle.bext.specs.Writing.{textGiven, dateGiven, timeGiven, restGiven, writable, padded, laid, bextOut, Writes}
+use Rattle.bext.specs.Contracts.{Fitting}
 use Rattle.bext.proofs.Texts.{text-short, text-again, padded-text, padded-good, text-back}
 use Rattle.bext.proofs.Stamps.{Back, Forth, back, forth, date-set, time-set}
 use Rattle.bext.proofs.Stores.{padded-length, laid-length, front1}

@@ -1,18 +1,19 @@
 -- Bytes put at a place one after the other are the whole run put there.
 -- Assumes nothing.
-use mathlib.Core.Path.{_≡_, refl, sym, ap, _∙_, subst}
+use mathlib.Core.Path.{_≡_, refl, sym, ap, _∙_}
 use mathlib.Core.List.{List, [], _∷_, _++_, append-nil}
-use Prim.Native.Nat.{ℕ, zero, suc, _+_, _-_, _≤_, _<_}
+use Prim.Native.Nat.{ℕ, suc, _+_, _-_, _≤_, _<_}
 use native.Mathlib.Nat.{zero-add}
 use native.Mathlib.Omega.{arith}
 use native.Mathlib.Numerals.{add-one}
-use lib.ListN.{length, set, take, drop, getD, replicate, length-append, length-take, length-replicate, replicate-append-replicate}
+use lib.ListN.{length, set, take, drop, getD, replicate, length-append, length-replicate, replicate-append-replicate}
 use lib.Seq.{sets, sets-eq, take-suc, length-take-le}
 use lib.Dec.{eqb·suc-zero}
 use Rattle.le.specs.Number.{bytes}
 use Rattle.le.proofs.Laws.{sets-append, bytes-length}
 use Rattle.bext.specs.Records.{Whole}
-use Rattle.bext.specs.Writing.{padded, restOf, laid, Fitting}
+use Rattle.bext.specs.Writing.{padded, restOf, laid}
+use Rattle.bext.specs.Contracts.{Fitting}
 
 -- a run after a run
 pub puts-next : (s xs ys : List ℕ) (at n : ℕ) → n ≡ at + length xs → sets (sets s at xs) n ys ≡ sets s at (xs ++ ys)

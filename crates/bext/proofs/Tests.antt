@@ -1,6 +1,6 @@
 -- A test that goes on only while it holds, as `a && b` does: what its flag is, by each way.
 -- Assumes nothing.
-use mathlib.Core.Path.{_≡_, refl, sym, ap, _∙_}
+use mathlib.Core.Path.{_≡_, sym, ap, _∙_}
 use mathlib.Core.Bool.{Bool, true, false, _&&_}
 
 -- the first test held, so the flag is the second

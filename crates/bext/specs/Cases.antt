@@ -1,13 +1,12 @@
 -- The edges of bext's rules, on both sides: what keeps its rule, and what breaks it by one. proofs/Cases.antt computes it.
 use Prim.Native.Nat.{ℕ}
-use mathlib.Core.Bool.{Bool, not}
+use mathlib.Core.Bool.{Bool, true, false, not}
 use mathlib.Core.List.{List, [], _∷_, _++_}
-use lib.ListN.{length, set, replicate}
+use lib.ListN.{replicate}
 use lib.Seq.{sets}
 use lib.Dec.{eqb}
-use Rattle.le.specs.Choice.{every}
-use Rattle.chunk.specs.Refusals.{Answer, refused, given, numberOf}
-use Rattle.bext.specs.Records.{Whole, textGood, isSeparator, dateGood, timeGood, restGood, bextIn}
+use Rattle.chunk.specs.Refusals.{Answer, refused, given, refusalNumber}
+use Rattle.bext.specs.Records.{Whole, textGood, dateGood, timeGood, restGood, bextIn}
 
 -- 2024?mm.dd by the two digits of month and day, and the first separator
 unfoldable pub dated : ℕ → ℕ → ℕ → ℕ → ℕ → List ℕ
@@ -23,12 +22,12 @@ payload size at bs = sets (replicate size 0) at bs
 
 -- whether a payload is accepted, and where not, whether by 13
 unfoldable pub accepted : Answer Whole → Bool
-accepted (refused r) = eqb 0 1
-accepted (given w) = eqb 0 0
+accepted (refused r) = false
+accepted (given w) = true
 
 unfoldable pub refusedBy13 : Answer Whole → Bool
-refusedBy13 (refused r) = eqb (numberOf r) 13
-refusedBy13 (given w) = eqb 0 1
+refusedBy13 (refused r) = eqb (refusalNumber r) 13
+refusedBy13 (given w) = false
 
 -- month 01 and 12, day 01 and 31; each separator; hours 00 and 24, minutes and seconds 59; texts; the bytes after Version
 unfoldable pub good : List Bool

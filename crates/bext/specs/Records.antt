@@ -2,17 +2,15 @@
 use Prim.Native.Nat.{ℕ, _+_, _-_, _*_}
 use mathlib.Core.Bool.{Bool, true, false, not, _&&_, _||_}
 use mathlib.Core.List.{List, [], _∷_}
-use lib.ListN.{length, drop, getD}
+use lib.ListN.{length, drop, getD, replicate}
 use lib.Dec.{eqb, leb}
 use Rattle.le.specs.Number.{field, number}
 use Rattle.le.specs.Choice.{pick, every}
 use Rattle.chunk.specs.declared.Refusal.the-variants.{BadBext}
-use Rattle.chunk.specs.Refusals.{Answer, refused, given, check}
+use Rattle.chunk.specs.Refusals.{refusalNumber, Answer, refused, given, check}
 use Rattle.bext.specs.declared.Bext.{Bext}
 use Rattle.bext.specs.declared.Reading.{Reading}
 use Rattle.bext.specs.declared.Reading.the-variants as reading
-use Rattle.bext.specs.declared.Part.{Part}
-use Rattle.bext.specs.declared.Part.the-variants as part
 
 -- ---- the parts
 
@@ -72,11 +70,6 @@ unfoldable pub restGood : ℕ → List ℕ → Bool
 unfolding pick
 restGood version rest = pick (eqb version 0) (allZero rest) true
 
--- what a part holds: so many bytes, where it keeps its rule
-unfoldable pub partOf : Bool → ℕ → Part
-unfolding pick
-partOf good n = pick good (part.Length n) part.Bad
-
 -- ---- the record
 
 -- A record whole. An empty date or time is "not set". The history is all the bytes from 602 to the end: its text, and the
@@ -99,7 +92,7 @@ unfoldable pub setOf : List ℕ → List ℕ
 unfolding pick
 setOf d = pick (allZero d) [] d
 
--- the rules of a payload: "at least 602 bytes: Description 256, Originator 32, Reference 32, date 10, time 8,
+-- the rules of a payload of "at least 602 bytes": "Description 256, Originator 32, Reference 32, date 10, time 8,
 -- TimeReference low 4 and high 4, Version 2, then 254 bytes, then the coding history to the end"
 unfoldable pub rulesOf : List ℕ → List Bool
 rulesOf p =
@@ -151,3 +144,18 @@ numbersOf w =
 unfoldable pub readAs : Answer Whole → Reading
 readAs (refused r) = reading.Refused r
 readAs (given w) = reading.Record (numbersOf w)
+
+unfoldable pub flagOf : Bool → ℕ
+flagOf true = 1
+flagOf false = 0
+
+-- its number, 0 where nothing is refused, and its values: the lengths of description, originator and reference text, 1 or 0
+-- for date set and time set, the time reference, the version, the length of the history's text; or zeros
+unfoldable pub bextNumber : Reading → ℕ
+bextNumber (reading.Record b) = 0
+bextNumber (reading.Refused r) = refusalNumber r
+
+unfoldable pub bextValues : Reading → List ℕ
+bextValues (reading.Record b) =
+    b .description ∷ b .originator ∷ b .reference ∷ flagOf (b .date) ∷ flagOf (b .time) ∷ b .timeref ∷ b .version ∷ b .history ∷ []
+bextValues (reading.Refused r) = replicate 8 0

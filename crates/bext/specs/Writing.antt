@@ -1,8 +1,8 @@
 -- Document 01, "bext" (001 4.3): the payload of a record, or 16.
 use mathlib.Core.Path.{_≡_}
-use Prim.Native.Nat.{ℕ, _+_, _-_, _^_, _≤_}
+use Prim.Native.Nat.{ℕ, _-_, _^_}
 use mathlib.Core.Bool.{Bool, _&&_, _||_}
-use mathlib.Core.List.{List, [], _∷_, _++_}
+use mathlib.Core.List.{List, _++_}
 use lib.ListN.{length, replicate}
 use lib.Dec.{eqb, leb, ltb}
 use Rattle.le.specs.Number.{bytes}
@@ -88,15 +88,6 @@ asked description originator reference date time timeref version rest history =
       rest = restOf rest;
       history = history;
     }
-
--- each part of a record fits its place
-pub record Fitting (w : Whole) : Type 0 where
-  pub description-fits : length (w .description) ≤ 256
-  pub originator-fits : length (w .originator) ≤ 32
-  pub reference-fits : length (w .reference) ≤ 32
-  pub date-fits : length (w .date) ≤ 10
-  pub time-fits : length (w .time) ≤ 8
-  pub rest-fits : length (w .rest) ≡ 254
 
 -- what the writer of a record answers and leaves in the output: 16, 15, or the payload at its start
 pub record Writes (w : Whole) (entry exit : List ℕ) (r : Written) : Type 0 where

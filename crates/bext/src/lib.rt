@@ -10,8 +10,9 @@ ghost use mathlib.Core.Bool.{_||_};
 ghost use Prim.Native.Nat.{_+_, _≤_};
 ghost use lib.ListN.{length, drop, replicate};
 ghost use lib.Seq.{sets};
-ghost use Rattle.bext.specs.Records.{allZero, textOf, textGood, isDigit, twoDigits, isSeparator, partOf, dateGood, timeGood, restGood, setOf, bextIn, readAs};
-ghost use Rattle.bext.specs.Writing.{textGiven, dateGiven, timeGiven, restGiven, restOf, padded, writable, asked, laid, Fitting, Writes};
+ghost use Rattle.bext.specs.Records.{allZero, textOf, textGood, isDigit, twoDigits, isSeparator, dateGood, timeGood, restGood, setOf, bextIn, readAs};
+ghost use Rattle.bext.specs.Contracts.{partOf, Fitting};
+ghost use Rattle.bext.specs.Writing.{textGiven, dateGiven, timeGiven, restGiven, restOf, padded, writable, asked, laid, Writes};
 
 // A record by numbers.
 pub struct Bext {

@@ -13,7 +13,8 @@ use borrow.Author.Tests.{eq-eqb, ne-eqb, eqb-true, eqb-false, ltb-true, not-true
 use Rattle.le.specs.Number.{Bytes, value, field, number}
 use Rattle.le.specs.Choice.{pick}
 use Rattle.le.proofs.Laws.{field-length, Bytes-drop}
-use Rattle.chna.specs.Ids.{isHex, fitsOne, fits, codes, hexes, UNUSED, UID, TRACK, CHANNEL, PACK, NOPACK}
+use Rattle.chna.specs.Ids.{isHex, fitsOne, fits, codes, UNUSED, UID, TRACK, CHANNEL, PACK, NOPACK}
+use Rattle.chna.specs.Contracts.{hexes}
 
 -- ---- two tests, the second asked where the first holds
 

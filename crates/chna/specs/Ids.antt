@@ -12,7 +12,7 @@ use Rattle.le.specs.Choice.{pick}
 unfoldable pub isHex : ℕ → Bool
 isHex b = leb 0x30 b && leb b 0x39 || leb 0x41 b && leb b 0x46 || leb 0x61 b && leb b 0x66
 
--- one byte by a pattern's character: "x is a hexadecimal digit" (002 8.2), every other character stands for itself
+-- one byte by a pattern's character: x is a hex digit (002 8.2), every other character stands for itself
 unfoldable pub fitsOne : ℕ → ℕ → Bool
 unfolding pick
 fitsOne p b = pick (eqb p 0x78) (isHex b) (eqb b p)
@@ -24,10 +24,6 @@ fits [] [] = true
 fits [] (b ∷ bs) = false
 fits (p ∷ ps) [] = false
 fits (p ∷ ps) (b ∷ bs) = pick (fitsOne p b) (fits ps bs) false
-
--- a pattern of n hex digits
-abbrev pub hexes : ℕ → List ℕ
-hexes n = replicate n 0x78
 
 -- the characters of a pattern
 unfoldable pub codes : String → List ℕ

@@ -9,7 +9,7 @@ use Rattle.le.specs.Number.{bytes, field, number}
 use Rattle.le.specs.Choice.{pick, every}
 use Rattle.chunk.specs.declared.Refusal.the-variants.{BadChna, BadRecord}
 use Rattle.chunk.specs.declared.Written.{Written}
-use Rattle.chunk.specs.Refusals.{Answer, refused, given, check}
+use Rattle.chunk.specs.Refusals.{refusalNumber, Answer, refused, given, check}
 use Rattle.chunk.specs.Writes.{fitting, writtenOf, outputOf}
 use Rattle.chna.specs.Ids.{fits, UNUSED, UID, TRACK, CHANNEL, PACK, NOPACK}
 use Rattle.chna.specs.declared.Chna.{Chna}
@@ -142,6 +142,15 @@ numbersOf w = record { tracks = w .tracks; uids = w .uids; entries = length (w .
 unfoldable pub readAs : Answer Whole → Reading
 readAs (refused r) = reading.Refused r
 readAs (given w) = reading.Record (numbersOf w)
+
+-- its number, 0 where nothing is refused, and its values: track count, UID count and number of entries, or zeros
+unfoldable pub chnaNumber : Reading → ℕ
+chnaNumber (reading.Record c) = 0
+chnaNumber (reading.Refused r) = refusalNumber r
+
+unfoldable pub chnaValues : Reading → List ℕ
+chnaValues (reading.Record c) = c .tracks ∷ c .uids ∷ c .entries ∷ []
+chnaValues (reading.Refused r) = replicate 3 0
 
 -- ---- writing
 

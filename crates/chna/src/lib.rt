@@ -11,7 +11,8 @@ ghost use Prim.Native.Nat.{_+_, _/_, _%_, _^_, _≤_, _<_};
 ghost use lib.ListN.{length, drop};
 ghost use lib.Bits.{bitOr};
 ghost use Rattle.le.specs.Number.{field};
-ghost use Rattle.chna.specs.Ids.{isHex, fits, hexes, UNUSED, UID, TRACK, CHANNEL, PACK, NOPACK};
+ghost use Rattle.chna.specs.Ids.{isHex, fits, UNUSED, UID, TRACK, CHANNEL, PACK, NOPACK};
+ghost use Rattle.chna.specs.Contracts.{hexes};
 ghost use Rattle.chna.specs.Records.{usedIn, usedGood, wholeOf, wholeGood, chnaIn, readAs, chnaFrom, Writes, padsOff, padsZeroed};
 
 // A record: its two counts and how many entries it has.

@@ -1,15 +1,15 @@
 -- Rows stored one after the other into words, and the number of rows last, make the table of them.
 -- Assumes nothing.
 use mathlib.Core.Path.{_≡_, refl, sym, ap, _∙_}
-use mathlib.Core.List.{List, [], _∷_, _++_, append-nil}
-use Prim.Native.Nat.{ℕ, zero, suc, _+_, _*_, _≤_, _<_}
+use mathlib.Core.List.{List, [], _∷_, _++_}
+use Prim.Native.Nat.{ℕ, suc, _+_, _*_, _≤_}
 use native.Mathlib.Nat.{zero-add, add-zero}
 use native.Mathlib.Omega.{arith}
-use lib.ListN.{length, set, take, drop, length-append, length-set}
-use lib.Seq.{sets, sets-eq, length-sets}
+use lib.ListN.{length, set, drop, length-set}
+use lib.Seq.{sets, sets-eq, length-sets, getD-set-same, getD-set-other}
 use Rattle.le.proofs.Laws.{sets-append}
 use Rattle.chunk.specs.declared.Entry.{Entry}
-use Rattle.chunk.specs.Tables.{rowWords, allWords, tabled, setRow}
+use Rattle.chunk.specs.Tables.{rowWords, rowIn, allWords, tabled, setRow}
 
 -- these rows stored from row i on, and then the number of all in word 0
 unfoldable pub filled : List ℕ → ℕ → List Entry → List ℕ
@@ -54,3 +54,28 @@ filled-tabled (x ∷ w) rows h =
 
     behind : (n : ℕ) → drop n w ≡ drop (1 + n) (x ∷ w)
     behind n = ap (λ (k : ℕ). drop k (x ∷ w)) (let p : suc n ≡ 1 + n = omega arith in p)
+
+-- a row that was stored is read back
+pub row-back : (w : List ℕ) (at : ℕ) (e : Entry) → at + 4 ≤ length w → rowIn at (sets w at (rowWords e)) ≡ e
+unfolding rowIn rowWords
+row-back w at e h =
+    let w1 = set w at (e .name) in
+    let w2 = set w1 (suc at) (e .place) in
+    let w3 = set w2 (suc (suc at)) (e .size) in
+    let one : at + 1 ≡ suc at = omega arith in
+    let two : at + 2 ≡ suc (suc at) = omega arith in
+    rw (one, two)
+    (λ i. record {
+      name =
+          (getD-set-other w3 (suc (suc (suc at))) at 0 0 (omega arith)
+          ∙ getD-set-other w2 (suc (suc at)) at (e .size) 0 (omega arith)
+          ∙ getD-set-other w1 (suc at) at (e .place) 0 (omega arith)
+          ∙ getD-set-same w at (e .name) 0 (omega arith)) i;
+      place =
+          (getD-set-other w3 (suc (suc (suc at))) (suc at) 0 0 (omega arith)
+          ∙ getD-set-other w2 (suc (suc at)) (suc at) (e .size) 0 (omega arith)
+          ∙ getD-set-same w1 (suc at) (e .place) 0 (simp length-set (omega arith))) i;
+      size =
+          (getD-set-other w3 (suc (suc (suc at))) (suc (suc at)) 0 0 (omega arith)
+          ∙ getD-set-same w2 (suc (suc at)) (e .size) 0 (simp length-set (omega arith))) i;
+    })

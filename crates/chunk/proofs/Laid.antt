@@ -12,22 +12,25 @@ use lib.Dec.{eqb, ltb, leb}
 use borrow.Author.Tests.{le-leb, leb-true, eq-eqb, ne-eqb, eqb-true, eqb-false, le-ltb}
 use Rattle.le.specs.Number.{number}
 use Rattle.chunk.specs.declared.Entry.{Entry}
+use Rattle.chunk.specs.declared.TrueSize.{TrueSize}
 use Rattle.chunk.specs.declared.Refusal.{Refusal}
 use Rattle.chunk.specs.declared.Refusal.the-variants.{CutHeader, TooMany, UnknownSize, PastEnd}
 use Rattle.chunk.specs.declared.Verdict.{Verdict}
 use Rattle.chunk.specs.declared.Verdict.the-variants.{Accepted, Refused}
-use Rattle.chunk.specs.declared.Step.{Step}
-use Rattle.chunk.specs.declared.Step.the-variants.{Chunk, Stop}
 use Rattle.chunk.specs.Refusals.{Answer, refused, given}
 use Rattle.chunk.proofs.Checks.{picked, pick-true, pick-false}
 use Rattle.chunk.specs.Fields.{ONES}
-use Rattle.chunk.specs.Walks.{Rule, past, placed, sized, step, stepAt, Walked, follow, walk, ownSize}
+use Rattle.chunk.specs.Walks.{Turn, Chunk, Stop, Rule, entryOf, past, placed, sized, step, stepAt, Walked, follow, walk, ownSize}
+
+-- the true size that a row shows
+abbrev pub row-size : Entry → TrueSize
+row-size e = record { bytes = e .size }
 
 -- a chunk whose header stands at an offset
 pub record Row (rule : Rule) (s : List ℕ) (at : ℕ) (e : Entry) : Type 0 where
   pub place : e .place ≡ at + 8
   pub named : number 4 at s ≡ e .name
-  pub sized : rule at (e .name) (number 4 (at + 4) s) ≡ given (e .size)
+  pub sized : rule at (e .name) (number 4 (at + 4) s) ≡ given (row-size e)
   pub ends : past e ≤ length s
 
 -- the rows from an offset to the end of the file
@@ -58,7 +61,7 @@ past-aligned e h = omega arith
 -- ---- a step
 
 -- what a step finds
-pub data Found (rule : Rule) (s : List ℕ) (room at : ℕ) : Step → Type 0 where
+pub data Found (rule : Rule) (s : List ℕ) (room at : ℕ) : Turn → Type 0 where
   ended : at ≡ length s → Found rule s room at (Stop Accepted)
   chunk : {e : Entry} → 1 ≤ room → Row rule s at e → Found rule s room at (Chunk e (past e))
   refusal : (r : Refusal) → Found rule s room at (Stop (Refused r))
@@ -71,18 +74,17 @@ step-found rule s room at =
     picked F (eqb room 0) _ _ (λ _. refusal TooMany) λ h.
     size (above (eqb-false room 0 h)) (rule at (number 4 at s) (number 4 (at + 4) s)) refl
   where
-    F : Step → Type 0
+    F : Turn → Type 0
     F = Found rule s room at
 
     above : (room ≡ 0 → ⊥) → 1 ≤ room
     above h = omega arith
 
-    size : 1 ≤ room → (x : Answer ℕ) → rule at (number 4 at s) (number 4 (at + 4) s) ≡ x
+    size : 1 ≤ room → (x : Answer TrueSize) → rule at (number 4 at s) (number 4 (at + 4) s) ≡ x
         → Found rule s room at (sized (length s) at (number 4 at s) x)
     size r (refused x) e = refusal x
-    size r (given n) e =
-        let chunk-at : Entry = record { name = number 4 at s; place = at + 8; size = n } in
-        picked F (leb (past chunk-at) (length s)) _ _
+    size r (given t) e =
+        picked F (leb (past (entryOf (at + 8) (number 4 at s) t)) (length s)) _ _
         (λ h. chunk r (record { place = refl; named = refl; sized = e; ends = leb-true _ _ h }))
         (λ _. refusal PastEnd)
 
@@ -142,7 +144,7 @@ walk-laid rule s zero at h = go (step-found rule s zero at) h
     rest : ℕ → Walked
     rest to = record { rows = []; end = Refused TooMany }
 
-    go : {x : Step} → Found rule s zero at x → follow x rest .end ≡ Accepted → Ends rule s zero at (follow x rest .rows)
+    go : {x : Turn} → Found rule s zero at x → follow x rest .end ≡ Accepted → Ends rule s zero at (follow x rest .rows)
     go (ended e) k = record { laid = done e; few = omega arith }
     go (chunk r row) k = absurd (omega arith)
     go (refusal r) k = absurd (let z : _≡_ {A = ℕ} 0 1 = cc in omega arith)
@@ -151,7 +153,7 @@ walk-laid rule s (suc room) at h = go (walk-laid rule s room) (step-found rule s
     rest : ℕ → Walked
     rest to = walk rule s room to
 
-    go : ((to : ℕ) → rest to .end ≡ Accepted → Ends rule s room to (rest to .rows)) → {x : Step} → Found rule s (suc room) at x
+    go : ((to : ℕ) → rest to .end ≡ Accepted → Ends rule s room to (rest to .rows)) → {x : Turn} → Found rule s (suc room) at x
         → follow x rest .end ≡ Accepted → Ends rule s (suc room) at (follow x rest .rows)
     go below (ended e) k = record { laid = done e; few = omega arith }
     go below (chunk {e} r row) k =
@@ -170,16 +172,12 @@ laid-walk {rule} {s} {at} (suc room) (next {e = e} r l) k =
 
 -- ---- rows that are laid
 
-pub laid-from : {rule : Rule} {s : List ℕ} {at : ℕ} {rows : List Entry} → Laid rule s at rows → at ≤ length s
-laid-from (done h) = omega arith
-laid-from (next r l) = omega (arith, row-fits r)
-
 -- a row of laid rows, with its header 8 bytes ahead of its place
 pub record Lies (rule : Rule) (s : List ℕ) (at : ℕ) (e : Entry) : Type 0 where
   pub after : at + 8 ≤ e .place
   pub ends : past e ≤ length s
   pub named : number 4 (e .place - 8) s ≡ e .name
-  pub sized : rule (e .place - 8) (e .name) (number 4 (e .place - 4) s) ≡ given (e .size)
+  pub sized : rule (e .place - 8) (e .name) (number 4 (e .place - 4) s) ≡ given (row-size e)
 
 row-lies : {rule : Rule} {s : List ℕ} {at : ℕ} {e : Entry} → Row rule s at e → Lies rule s at e
 row-lies {rule} {s} {at} {e} r =
@@ -223,7 +221,7 @@ laid-apart {e = e} {f = f} (next {e = x} {es = es} r l) m n =
 -- what has to hold of each row there
 pub record Shown (rule : Rule) (s : List ℕ) (e : Entry) : Type 0 where
   pub named : number 4 (e .place - 8) s ≡ e .name
-  pub sized : rule (e .place - 8) (e .name) (number 4 (e .place - 4) s) ≡ given (e .size)
+  pub sized : rule (e .place - 8) (e .name) (number 4 (e .place - 4) s) ≡ given (row-size e)
 
 pub relaid : {rule : Rule} {s : List ℕ} {at : ℕ} {rows : List Entry} (new : Rule) (u : List ℕ) → length u ≡ length s
     → ((e : Entry) → List·Memᴰ e rows → Shown new u e) → Laid rule s at rows → Laid new u at rows
@@ -242,6 +240,6 @@ pub own-ones : (at name own : ℕ) → own ≡ ONES → ownSize at name own ≡ 
 unfolding ownSize
 own-ones at name own h = pick-true _ _ _ (eq-eqb own ONES h)
 
-pub own-given : (at name own : ℕ) → (own ≡ ONES → ⊥) → ownSize at name own ≡ given own
+pub own-given : (at name own : ℕ) → (own ≡ ONES → ⊥) → ownSize at name own ≡ given (record { bytes = own })
 unfolding ownSize
 own-given at name own h = pick-false _ _ _ (ne-eqb own ONES h)

@@ -4,4 +4,4 @@ pub mod Refusals
 pub mod Tables
 pub mod Walks
 pub mod Writes
-pub mod Dues
+pub mod Contracts

@@ -8,31 +8,31 @@ use Rattle.chunk.specs.declared.Verdict.{Verdict}
 use Rattle.chunk.specs.declared.Verdict.the-variants.{Accepted, Refused}
 
 -- the document's number of each refusal
-abbrev pub numberOf : Refusal → ℕ
-numberOf TooShort = 1
-numberOf NotWave = 2
-numberOf Unfinished = 3
-numberOf BadDs64 = 4
-numberOf BadFormSize = 5
-numberOf CutHeader = 6
-numberOf TooMany = 9
-numberOf UnknownSize = 7
-numberOf PastEnd = 8
-numberOf BadChunkSet = 10
-numberOf BadFmt = 11
-numberOf RaggedAudio = 12
-numberOf BadBext = 13
-numberOf BadChna = 14
-numberOf BadRecord = 16
-numberOf TooLarge = 17
-numberOf ShortOutput = 15
-numberOf Already64 = 18
-numberOf NoReserve = 19
+abbrev pub refusalNumber : Refusal → ℕ
+refusalNumber TooShort = 1
+refusalNumber NotWave = 2
+refusalNumber Unfinished = 3
+refusalNumber BadDs64 = 4
+refusalNumber BadFormSize = 5
+refusalNumber CutHeader = 6
+refusalNumber TooMany = 9
+refusalNumber UnknownSize = 7
+refusalNumber PastEnd = 8
+refusalNumber BadChunkSet = 10
+refusalNumber BadFmt = 11
+refusalNumber RaggedAudio = 12
+refusalNumber BadBext = 13
+refusalNumber BadChna = 14
+refusalNumber BadRecord = 16
+refusalNumber TooLarge = 17
+refusalNumber ShortOutput = 15
+refusalNumber Already64 = 18
+refusalNumber NoReserve = 19
 
--- 0 where nothing is refused
+-- the number of a verdict: 0 where nothing is refused
 abbrev pub verdictNumber : Verdict → ℕ
 verdictNumber Accepted = 0
-verdictNumber (Refused r) = numberOf r
+verdictNumber (Refused r) = refusalNumber r
 
 -- an answer: a refusal, or a value
 pub data Answer (A : Type 0) : Type 0 where

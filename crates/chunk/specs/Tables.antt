@@ -2,13 +2,20 @@
 -- then four words for each.
 use Prim.Native.Nat.{ℕ, suc, _+_, _*_}
 use mathlib.Core.List.{List, [], _∷_, _++_}
-use mathlib.Core.Bool.{Bool}
-use lib.ListN.{length, drop, replicate}
+use lib.ListN.{length, drop, replicate, getD}
 use lib.Seq.{sets}
 use lib.Dec.{eqb}
 use Rattle.le.specs.Choice.{pick}
 use Rattle.chunk.specs.declared.Entry.{Entry}
 use Rattle.chunk.specs.declared.Table.{Table}
+
+-- The most chunks of a file ("The limits of 64 chunks, .."), and the words of a full table: Table::LIMIT and Table::WORDS
+-- of the code.
+abbrev pub LIMIT : ℕ
+LIMIT = 64
+
+abbrev pub WORDS : ℕ
+WORDS = 1 + 4 * LIMIT
 
 -- the words of a chunk; the fourth is kept for where its size came from
 unfoldable pub rowWords : Entry → List ℕ
@@ -24,7 +31,11 @@ tabled rows w = length rows ∷ allWords rows ++ drop (1 + 4 * length rows) w
 
 -- the table of these chunks, with zeros past the last
 unfoldable pub tableOf : List Entry → Table
-tableOf rows = record { words = tabled rows (replicate 257 0) }
+tableOf rows = record { words = tabled rows (replicate WORDS 0) }
+
+-- the chunk in the row that starts at a word
+unfoldable pub rowIn : ℕ → List ℕ → Entry
+rowIn at w = record { name = getD w at 0; place = getD w (at + 1) 0; size = getD w (at + 2) 0 }
 
 -- words with a chunk stored as row i
 unfoldable pub setRow : List ℕ → ℕ → Entry → List ℕ

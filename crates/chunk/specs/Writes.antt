@@ -1,13 +1,13 @@
--- What a writer leaves: "a refused write .. changes no byte", and "Bytes of any output past what is written stay untouched".
+-- What a writer answers and leaves: "Bytes of any output past what is written stay untouched", and after a refusal all of
+-- them (the customer's demand 1).
 use Prim.Native.Nat.{ℕ}
-use mathlib.Core.Bool.{Bool}
-use mathlib.Core.List.{List, _++_}
+use mathlib.Core.List.{List, [], _∷_, _++_}
 use lib.ListN.{length, drop}
 use lib.Dec.{leb}
 use Rattle.chunk.specs.declared.Refusal.the-variants.{ShortOutput}
 use Rattle.chunk.specs.declared.Written.{Written}
 use Rattle.chunk.specs.declared.Written.the-variants as written
-use Rattle.chunk.specs.Refusals.{Answer, refused, given, check, andThen}
+use Rattle.chunk.specs.Refusals.{refusalNumber, Answer, refused, given, check, andThen}
 
 -- the bytes to write, or 15 where the output is too short for them
 unfoldable pub fitting : List ℕ → Answer (List ℕ) → Answer (List ℕ)
@@ -18,6 +18,15 @@ fitting out a = andThen a λ bs. check (leb (length bs) (length out)) ShortOutpu
 unfoldable pub writtenOf : Answer (List ℕ) → Written
 writtenOf (refused r) = written.Refused r
 writtenOf (given bs) = written.Bytes (length bs)
+
+-- its number, 0 where nothing is refused, and its value: how many bytes were written
+unfoldable pub writtenNumber : Written → ℕ
+writtenNumber (written.Bytes n) = 0
+writtenNumber (written.Refused r) = refusalNumber r
+
+unfoldable pub writtenValues : Written → List ℕ
+writtenValues (written.Bytes n) = n ∷ []
+writtenValues (written.Refused r) = 0 ∷ []
 
 -- the output after it
 unfoldable pub outputOf : List ℕ → Answer (List ℕ) → List ℕ

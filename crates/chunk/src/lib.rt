@@ -1,14 +1,15 @@
 // Chunks: the refusals, a chunk's entry, the table of them, and a step of the walk from header to header.
 //
 // A chunk is a 4-byte name, a 32-bit size field, its payload, and one pad byte where the payload is odd.
-pub mod header;
+pub mod steps;
 
 ghost use mathlib.Core.Path.{_≡_};
-ghost use Prim.Native.Nat.{_+_, _*_, _≤_};
+ghost use Prim.Native.Nat.{_+_, _≤_};
 ghost use mathlib.Core.List.{[]};
 ghost use lib.ListN.{length};
-ghost use Rattle.chunk.specs.Refusals.{numberOf, verdictNumber};
-ghost use Rattle.chunk.specs.Tables.{tableOf, setRow};
+ghost use lib.Seq.{sets};
+ghost use Rattle.chunk.specs.Refusals.{refusalNumber, verdictNumber};
+ghost use Rattle.chunk.specs.Tables.{tableOf, rowWords, rowIn};
 
 // Why a file or a record is refused: document 01's table, in its order.
 pub enum Refusal {
@@ -55,7 +56,7 @@ pub enum Refusal {
 impl Refusal {
     // The document's number.
     pub fn number(self) -> u32
-        ensures { λ r. ⌜ r ≡ numberOf self ⌝ }
+        ensures { λ r. ⌜ r ≡ refusalNumber self ⌝ }
     {
         match self {
             Refusal::TooShort => 1,
@@ -106,6 +107,11 @@ pub struct Entry {
     pub size: u64,
 }
 
+// A chunk's true size.
+pub struct TrueSize {
+    pub bytes: u64,
+}
+
 // The chunks of a file, in file order, as words: word 0 is their number, and chunk i has the four words from 1 + 4 i:
 // name, place, size, and a zero.
 pub struct Table {
@@ -128,16 +134,27 @@ impl Table {
     }
 }
 
-// Stores an entry as row i of a table's words.
-pub fn put_row(words: &mut [u64], i: usize, e: Entry)
-    requires { ⌜ 5 + 4 * i ≤ length (now words) ⌝ }
-    ensures { λ _. ⌜ now (words .exit) ≡ setRow (now (words .entry)) i e ⌝ }
+// Stores an entry as the four words of a row from a place on.
+pub fn put_row(words: &mut [u64], at: usize, e: Entry)
+    requires { ⌜ at + 4 ≤ length (now words) ⌝ }
+    ensures { λ _. ⌜ now (words .exit) ≡ sets (now (words .entry)) at (rowWords e) ⌝ }
 {
-    let at = 1 + 4 * i;
     words[at] = e.name;
     words[at + 1] = e.place;
     words[at + 2] = e.size;
     words[at + 3] = 0;
+}
+
+// The entry in the row that starts at a word.
+pub fn row(words: &[u64], at: usize) -> Entry
+    requires { ⌜ at + 4 ≤ length (now words) ⌝ }
+    ensures { λ r. ⌜ r ≡ rowIn at (now (words .entry)) ⌝ }
+{
+    Entry {
+        name: words[at],
+        place: words[at + 1],
+        size: words[at + 2],
+    }
 }
 
 // A 32-bit size field that holds no size: document 01's "all ones".
@@ -171,18 +188,22 @@ impl Name {
     pub const CHNA: u64 = 0x616e_6863;
 }
 
-// What stands at an offset before the true size is asked: a header's name and size field, or a stop.
-pub enum Due {
-    Header(u64, u64),
-    Stop(Verdict),
+// A chunk's header: its name and its own size field.
+pub struct Header {
+    pub name: u64,
+    pub field: u64,
 }
 
-// What a step of the walk finds at an offset.
+// What a step of the walk finds at a header.
 pub enum Step {
-    // A chunk, and the offset past its payload and pad.
+    // A chunk, and the place of the next, whose header is whole.
     Chunk(Entry, u64),
-    // The end of the file, or a refusal.
-    Stop(Verdict),
+    // A chunk that ends with the file.
+    Last(Entry),
+    // A chunk with 1 to 7 bytes after it.
+    Cut(Entry),
+    // No chunk.
+    Stop(Refusal),
 }
 
 // What a writer answers.

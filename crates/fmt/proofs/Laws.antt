@@ -9,7 +9,7 @@ use native.Mathlib.Nat.{mul-le-mul}
 use native.Mathlib.Omega.{arith}
 use lib.ListN.{length}
 use lib.Dec.{eqb, ltb, leb, lit<}
-use borrow.Author.Tests.{eqb-true, ne-eqb, ltb-true, leb-true, lt-ltb}
+use borrow.Author.Tests.{eqb-true, eq-eqb, ne-eqb, ltb-true, leb-true, lt-ltb}
 use Rattle.le.specs.Number.{Bytes, bytes, number}
 use Rattle.le.specs.Choice.{pick, every}
 use Rattle.le.proofs.Laws.{number-bound}
@@ -18,6 +18,7 @@ use Rattle.chunk.specs.Refusals.{Answer, refused, given, check}
 use Rattle.chunk.proofs.Checks.{true-false, check-given, given-inj, picked}
 use Rattle.fmt.specs.declared.Format.{Format}
 use Rattle.fmt.specs.Formats.{PCM, EXTENSIBLE, SUBFORMAT-LOW, SUBFORMAT-HIGH, sizeGood, bitsGood, samplesGood, validGood, recordGood, recordIn, extraGood, formatIn}
+use Rattle.fmt.specs.Contracts.{Fields, Plain}
 use Rattle.fmt.specs.Writing.{extraBytes, fieldsFit}
 
 -- ---- rules
@@ -105,6 +106,10 @@ valid-none s w v m h e =
     (eqb-true _ _ (k .0), eqb-true _ _ (k .1 .0))
 
 -- the rules of a good record
+pub valid-absent : (s w v m : ℕ) → (s ≡ 40 → ⊥) → v ≡ 0 → m ≡ 0 → validGood s w v m ≡ true
+unfolding validGood
+valid-absent s w v m k p q = rw (ne-eqb s 40 k, eq-eqb v 0 p, eq-eqb m 0 q)
+
 pub record Good (f : Format) : Type 0 where
   pub size : sizeGood (f .tag) (f .size) ≡ true
   pub samples : samplesGood (f .channels) (f .rate) (f .block) (f .bits) ≡ true
@@ -151,6 +156,11 @@ gathered p f e₀ e₁ e₂ e₃ e₄ e₅ e₆ e₇ e₈ = joined e₀ e₁ e�
     joined e₀ e₁ e₂ e₃ e₄ e₅ e₆ e₇ e₈ = cc
 
 -- ---- payloads
+
+-- a record that was read has valid bits and a mask only of 40 bytes
+pub plain : (p : List ℕ) (f : Format) → Fields p f → Plain f
+unfolding recordIn
+plain p f h = subst Plain (sym (h .is)) (record { channels-fit = subst (λ (x : Format). x .channels < 65536) (h .is) (h .channels-fit); none = λ k. (rw (ne-eqb (length p) 40 k), rw (ne-eqb (length p) 40 k)) })
 
 pub extra-bad : (p : List ℕ) → extraGood p ≡ false → formatIn p ≡ refused BadFmt
 unfolding formatIn

@@ -1,14 +1,13 @@
 -- Document 01, "fmt" (000 A.2): the record that a payload holds, or 11.
-use Prim.Native.Nat.{ℕ, _*_, _/_, _<_}
-use mathlib.Core.Path.{_≡_}
+use Prim.Native.Nat.{ℕ, _*_, _/_}
 use mathlib.Core.Bool.{Bool, true, false, _||_}
 use mathlib.Core.List.{List, [], _∷_}
-use lib.ListN.{length}
+use lib.ListN.{length, replicate}
 use lib.Dec.{eqb, leb}
 use Rattle.le.specs.Number.{number}
 use Rattle.le.specs.Choice.{pick, every}
 use Rattle.chunk.specs.declared.Refusal.the-variants.{BadFmt}
-use Rattle.chunk.specs.Refusals.{Answer, refused, given, check}
+use Rattle.chunk.specs.Refusals.{refusalNumber, Answer, refused, given, check}
 use Rattle.fmt.specs.declared.Format.{Format}
 use Rattle.fmt.specs.declared.Reading.{Reading}
 use Rattle.fmt.specs.declared.Reading.the-variants as reading
@@ -26,7 +25,7 @@ SUBFORMAT-LOW = 0x0010_0000_0000_0001
 abbrev pub SUBFORMAT-HIGH : ℕ
 SUBFORMAT-HIGH = 0x719B_3800_AA00_0080
 
--- "16, 18 or 40 bytes, the record keeping which: tag, channels, rate, bytes a second, block, bits"; of 40 also "valid
+-- "16, 18 or 40 bytes, the record keeping which"; "tag, channels, rate, bytes a second, block, bits"; of 40 also "valid
 -- bits" and "channel mask"
 unfoldable pub recordIn : List ℕ → Format
 unfolding pick
@@ -97,7 +96,12 @@ unfoldable pub readAs : Answer Format → Reading
 readAs (refused r) = reading.Refused r
 readAs (given f) = reading.Record f
 
--- the fields of a payload, of which the number of channels fits its bytes
-pub record Fields (p : List ℕ) (f : Format) : Type 0 where
-  pub is : f ≡ recordIn p
-  pub channels-fit : f .channels < 65536
+-- its number, 0 where nothing is refused, and its values: the record's nine, or zeros
+unfoldable pub fmtNumber : Reading → ℕ
+fmtNumber (reading.Record f) = 0
+fmtNumber (reading.Refused r) = refusalNumber r
+
+unfoldable pub fmtValues : Reading → List ℕ
+fmtValues (reading.Record f) =
+    f .size ∷ f .tag ∷ f .channels ∷ f .rate ∷ f .byterate ∷ f .block ∷ f .bits ∷ f .valid ∷ f .mask ∷ []
+fmtValues (reading.Refused r) = replicate 9 0

@@ -8,7 +8,8 @@ ghost use mathlib.Core.Path.{_≡_};
 ghost use Prim.Native.Nat.{_≤_, _<_};
 ghost use lib.ListN.{length};
 ghost use lib.Seq.{sets};
-ghost use Rattle.fmt.specs.Formats.{Fields, sizeGood, bitsGood, samplesGood, validGood, recordGood, extraGood, formatIn, readAs};
+ghost use Rattle.fmt.specs.Formats.{sizeGood, bitsGood, samplesGood, validGood, recordGood, extraGood, formatIn, readAs};
+ghost use Rattle.fmt.specs.Contracts.{Fields, Plain};
 ghost use Rattle.fmt.specs.Writing.{headBytes, extraBytes, fieldsFit, writable, Writes};
 
 // A format record, which keeps the length of its payload.
@@ -142,6 +143,23 @@ fn fields(payload: &[u8]) -> Format
     }
 }
 
+// The rules that a record shows, of one that was read: a payload of another length than 40 has no valid bits to judge.
+fn read_good(format: Format) -> bool
+    requires { ⌜ Plain format ⌝ }
+    ensures { λ r. ⌜ r ≡ recordGood format ⌝ }
+{
+    if !size_good(format.tag, format.size) {
+        return false;
+    }
+    if !samples_good(format.channels, format.rate, format.block, format.bits) {
+        return false;
+    }
+    if format.size != 40 {
+        return true;
+    }
+    valid_good(format.size, format.bits, format.valid, format.mask)
+}
+
 // The record of a payload, which may be any bytes at all.
 pub fn read(payload: &[u8]) -> Reading
     ensures { λ r. ⌜ r ≡ readAs (formatIn (now (payload .entry))) ⌝ }
@@ -153,7 +171,7 @@ pub fn read(payload: &[u8]) -> Reading
         return Reading::Refused(Refusal::BadFmt);
     }
     let record = fields(payload);
-    if !record_good(record) {
+    if !read_good(record) {
         return Reading::Refused(Refusal::BadFmt);
     }
     Reading::Record(record)

@@ -19,7 +19,7 @@ use Rattle.chunk.proofs.Checks.{picked, true-false, given-inj, refused-given, c
 use Rattle.form.specs.declared.Form.{Form}
 use Rattle.form.specs.declared.Form.the-variants.{Riff, Rf64, Bw64}
 use Rattle.form.specs.declared.Head.{Head}
-use Rattle.form.specs.Forms.{nameOf, isWide, formOf, ds64Good, ds64At, noDs64, headAs, formSize, wholeForm, headOf, openFor32}
+use Rattle.form.specs.Forms.{nameOf, isWide, formOf, ds64Good, ds64At, noDs64, wideAs, headAs, formSize, wholeForm, wholeAs, headOf, openFor32, ENTRIES, LEAST, ENTRY}
 
 -- what an accepted head tells
 pub record Opened (s : List ℕ) (h : Head) : Type 0 where
@@ -84,14 +84,14 @@ goodAt s = ds64Good (length s) (number 4 12 s) (number 4 16 s) (number 4 44 s)
 
 pub wide-head : (f : Form) (s : List ℕ) (h : Head) → isWide f ≡ true → headAs f s ≡ given h
     → (goodAt s ≡ true) × (h ≡ record { form = f; ds64 = ds64At s })
-unfolding headAs isWide
+unfolding wideAs headAs isWide
 wide-head Riff s h w e = absurd (true-false false w refl)
 wide-head Rf64 s h w e = let c = check-given (goodAt s) _ _ h e in (c .0, sym (given-inj _ _ (c .1)))
 wide-head Bw64 s h w e = let c = check-given (goodAt s) _ _ h e in (c .0, sym (given-inj _ _ (c .1)))
 
 pub head-wide : (f : Form) (s : List ℕ) → isWide f ≡ true → goodAt s ≡ true
     → headAs f s ≡ given (record { form = f; ds64 = ds64At s })
-unfolding headAs isWide
+unfolding wideAs headAs isWide
 head-wide Riff s w e = absurd (true-false false w refl)
 head-wide Rf64 s w e = check-true (goodAt s) _ _ e
 head-wide Bw64 s w e = check-true (goodAt s) _ _ e
@@ -107,8 +107,8 @@ head-form Bw64 s h e = ap (λ (x : Head). x .form) (wide-head Bw64 s h refl e .1
 pub record Ds64Rules (len name size count : ℕ) : Type 0 where
   pub named : name ≡ DS64
   pub sized : size ≡ ONES → ⊥
-  pub holds : 28 + 12 * count ≤ size
-  pub few : count ≤ 16
+  pub holds : LEAST + ENTRY * count ≤ size
+  pub few : count ≤ ENTRIES
   pub ends : 20 + size + size % 2 ≤ len
 
 pub ds64-rules : (len name size count : ℕ) → ds64Good len name size count ≡ true → Ds64Rules len name size count
@@ -116,14 +116,14 @@ unfolding ds64Good
 ds64-rules len name size count e =
     let c1 = rule-and (eqb name DS64) _ e in
     let c2 = rule-and (not (eqb size ONES)) _ (c1 .1) in
-    let c3 = rule-and (leb (28 + 12 * count) size) _ (c2 .1) in
-    let c4 = rule-and (leb count 16) _ (c3 .1) in
+    let c3 = rule-and (leb (LEAST + ENTRY * count) size) _ (c2 .1) in
+    let c4 = rule-and (leb count ENTRIES) _ (c3 .1) in
     let c5 = rule-and (leb (20 + size + size % 2) len) _ (c4 .1) in
     record {
       named = eqb-true name DS64 (c1 .0);
       sized = eqb-false size ONES (not-true _ (c2 .0));
-      holds = leb-true (28 + 12 * count) size (c3 .0);
-      few = leb-true count 16 (c4 .0);
+      holds = leb-true (LEAST + ENTRY * count) size (c3 .0);
+      few = leb-true count ENTRIES (c4 .0);
       ends = leb-true (20 + size + size % 2) len (c5 .0);
     }
 
@@ -133,13 +133,13 @@ rules-ds64 len name size count r =
     rw (
       eq-eqb name DS64 (r .named),
       ne-eqb size ONES (r .sized),
-      le-leb (28 + 12 * count) size (r .holds),
-      le-leb count 16 (r .few),
+      le-leb (LEAST + ENTRY * count) size (r .holds),
+      le-leb count ENTRIES (r .few),
       le-leb (20 + size + size % 2) len (r .ends),
     )
 
 -- each 64-bit number of ds64 is its low half and 2 ^ 32 times its high half
-pub ds64-whole : (s : List ℕ) → 48 ≤ length s
+pub ds64-whole : (s : List ℕ) → 20 + LEAST ≤ length s
     → (ds64At s .«form_size» ≡ number 4 20 s + 0x1_0000_0000 * number 4 24 s)
     × (ds64At s .«data_size» ≡ number 4 28 s + 0x1_0000_0000 * number 4 32 s)
     × (ds64At s .third ≡ number 4 36 s + 0x1_0000_0000 * number 4 40 s)
@@ -157,7 +157,7 @@ ds64-broken len name size count k = go (ds64Good len name size count) refl
 -- ---- both directions
 
 pub head-opened : (s : List ℕ) (h : Head) → headOf s ≡ given h → Opened s h
-unfolding headOf
+unfolding wholeAs headOf
 head-opened s h e =
     let c1 = check-given (leb 12 (length s)) _ _ h e in
     let c2 = andThen-given (formOf (number 4 0 s)) _ h (c1 .1) in
@@ -183,7 +183,7 @@ head-opened s h e =
         })
 
 pub opened-head : (s : List ℕ) (h : Head) → Opened s h → headOf s ≡ given h
-unfolding headOf
+unfolding wholeAs headOf
 opened-head s h o =
     check-true (leb 12 (length s)) _ _ (le-leb 12 (length s) (o .long))
     ∙ andThen-at (formOf (number 4 0 s)) _ (h .form) (named-form (number 4 0 s) (h .form) (o .named))

@@ -1,4 +1,4 @@
+pub mod Ds64Entries
 pub mod Heads
-pub mod Known
 pub mod Opens
 pub mod Sizes

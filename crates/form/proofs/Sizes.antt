@@ -9,17 +9,19 @@ use native.Mathlib.Omega.{arith}
 use lib.Dec.{eqb}
 use borrow.Author.Tests.{eq-eqb, ne-eqb, eqb-true, not-true}
 use Rattle.le.specs.Choice.{pick}
+use Rattle.chunk.specs.declared.TrueSize.{TrueSize}
 use Rattle.chunk.specs.declared.Refusal.the-variants.{BadDs64, UnknownSize}
-use Rattle.chunk.specs.Refusals.{given}
+use Rattle.chunk.specs.Refusals.{refused, given}
 use Rattle.chunk.specs.Names.{DS64, DATA}
 use Rattle.chunk.specs.Fields.{ONES}
 use Rattle.chunk.proofs.Checks.{given-inj, refused-given, true-false, check-given, pick-true, pick-false}
 use Rattle.form.specs.declared.Form.{Form}
 use Rattle.form.specs.declared.Form.the-variants.{Riff, Rf64, Bw64}
+use Rattle.form.specs.declared.Ds64.{Ds64}
 use Rattle.form.specs.declared.Head.{Head}
 use Rattle.form.specs.Forms.{isWide}
-use Rattle.form.specs.Sizes.{Known, onesSize, strayDs64, trueSize}
-use Rattle.form.proofs.Known.{true-field, true-ones}
+use Rattle.form.specs.Sizes.{Ds64Entry, entrySize, knownSize, onesSize, strayDs64, trueSize}
+use Rattle.form.proofs.Ds64Entries.{true-field, true-ones}
 
 -- ---- ds64's place
 
@@ -33,21 +35,30 @@ pub other-placed : (f : Form) (at name : ℕ) → (name ≡ DS64 → ⊥) → st
 unfolding strayDs64
 other-placed f at name k = rw (ne-eqb name DS64 k)
 
+-- a ds64 that isn't first in a 64-bit form is out of place
+pub stray-placed : (f : Form) (at name : ℕ) → name ≡ DS64 → (isWide f ≡ true → at ≡ 12 → ⊥) → strayDs64 f at name ≡ true
+unfolding strayDs64
+stray-placed f at name e k = rw (eq-eqb name DS64 e) (go (isWide f) refl)
+  where
+    go : (w : Bool) → isWide f ≡ w → not (w && eqb at 12) ≡ true
+    go true p = ap not (ne-eqb at 12 (k p))
+    go false p = refl
+
 pub first-placed : (f : Form) → isWide f ≡ true → strayDs64 f 12 DS64 ≡ false
 unfolding strayDs64
 first-placed f w = rw w
 
 -- ---- what a known size tells
 
-module _ (h : Head) (ks : List Known) (at name own n : ℕ) (e : trueSize h ks at name own ≡ given n) where
+module _ (h : Head) (ks : List Ds64Entry) (at name own : ℕ) (t : TrueSize) (e : trueSize h ks at name own ≡ given t) where
   allowed : (not (strayDs64 (h .form) at name) ≡ true)
-      × (pick (eqb own ONES) (onesSize (h .form) (h .ds64) ks name) (given own) ≡ given n)
+      × (pick (eqb own ONES) (onesSize (h .form) (h .ds64) ks name) (given (record { bytes = own })) ≡ given t)
   unfolding trueSize
-  allowed = check-given (not (strayDs64 (h .form) at name)) BadDs64 _ n e
+  allowed = check-given (not (strayDs64 (h .form) at name)) BadDs64 _ t e
 
   -- "A size field that is not all ones is the true size"
-  pub own-true : (own ≡ ONES → ⊥) → n ≡ own
-  own-true k = sym (given-inj own n (sym (pick-false (eqb own ONES) _ _ (ne-eqb own ONES k)) ∙ allowed .1))
+  pub own-true : (own ≡ ONES → ⊥) → t .bytes ≡ own
+  own-true k = ap (λ (x : TrueSize). x .bytes) (sym (given-inj _ t (sym (pick-false (eqb own ONES) _ _ (ne-eqb own ONES k)) ∙ allowed .1)))
 
   -- "A ds64 anywhere else, or in RIFF, is refused"
   pub ds64-first : name ≡ DS64 → (isWide (h .form) ≡ true) × (at ≡ 12)
@@ -60,33 +71,58 @@ module _ (h : Head) (ks : List Known) (at name own n : ℕ) (e : trueSize h ks a
   pub riff-own : h .form ≡ Riff → own ≡ ONES → ⊥
   unfolding onesSize
   riff-own f k =
-      refused-given UnknownSize n
+      refused-given UnknownSize t
       (sym (ap (λ (x : Form). onesSize x (h .ds64) ks name) f)
       ∙ sym (pick-true (eqb own ONES) _ _ (eq-eqb own ONES k))
       ∙ allowed .1)
 
+-- ---- an all-ones field
+
+pub ones-riff : (f : Form) (d : Ds64) (ks : List Ds64Entry) (name : ℕ) → isWide f ≡ false → onesSize f d ks name ≡ refused UnknownSize
+unfolding isWide onesSize
+ones-riff Riff d ks name w = refl
+ones-riff Rf64 d ks name w = absurd (true-false true refl w)
+ones-riff Bw64 d ks name w = absurd (true-false true refl w)
+
+pub ones-wide : (f : Form) (d : Ds64) (ks : List Ds64Entry) (name : ℕ) → isWide f ≡ true → onesSize f d ks name ≡ knownSize d ks name
+unfolding isWide onesSize
+ones-wide Riff d ks name w = absurd (true-false false w refl)
+ones-wide Rf64 d ks name w = refl
+ones-wide Bw64 d ks name w = refl
+
+-- only ds64 gives it a size
+pub given-wide : (f : Form) (d : Ds64) (ks : List Ds64Entry) (name : ℕ) (t : TrueSize) → onesSize f d ks name ≡ given t → isWide f ≡ true
+unfolding isWide onesSize
+given-wide Riff d ks name t e = absurd (refused-given UnknownSize t e)
+given-wide Rf64 d ks name t e = refl
+given-wide Bw64 d ks name t e = refl
+
+pub known-data : (d : Ds64) (ks : List Ds64Entry) (name : ℕ) → name ≡ DATA → knownSize d ks name ≡ given (record { bytes = d .«data_size» })
+unfolding knownSize
+known-data d ks name e = pick-true _ _ _ (eq-eqb name DATA e)
+
+pub known-other : (d : Ds64) (ks : List Ds64Entry) (name : ℕ) → (name ≡ DATA → ⊥) → knownSize d ks name ≡ entrySize name ks
+unfolding knownSize
+known-other d ks name n = pick-false _ _ _ (ne-eqb name DATA n)
+
 -- ---- which sizes are known
 
 -- whatever ds64 says: "An entry for a size that isn't all ones has no effect"
-pub true-own : (h : Head) (ks : List Known) (at name own : ℕ) → (name ≡ DS64 → ⊥) → (own ≡ ONES → ⊥)
-    → trueSize h ks at name own ≡ given own
+pub true-own : (h : Head) (ks : List Ds64Entry) (at name own : ℕ) → (name ≡ DS64 → ⊥) → (own ≡ ONES → ⊥)
+    → trueSize h ks at name own ≡ given (record { bytes = own })
 true-own h ks at name own k l = true-field h ks at name own (other-placed (h .form) at name k) l
 
--- so a data chunk with a size of its own keeps it
-pub data-own : (h : Head) (ks : List Known) (at own : ℕ) → (own ≡ ONES → ⊥) → trueSize h ks at DATA own ≡ given own
-data-own h ks at own l = true-own h ks at DATA own (λ p. omega arith) l
-
-pub true-ds64 : (h : Head) (ks : List Known) (own : ℕ) → isWide (h .form) ≡ true → (own ≡ ONES → ⊥)
-    → trueSize h ks 12 DS64 own ≡ given own
+pub true-ds64 : (h : Head) (ks : List Ds64Entry) (own : ℕ) → isWide (h .form) ≡ true → (own ≡ ONES → ⊥)
+    → trueSize h ks 12 DS64 own ≡ given (record { bytes = own })
 true-ds64 h ks own w l = true-field h ks 12 DS64 own (first-placed (h .form) w) l
 
 -- "on data, the ds64 data size"
-pub true-data : (h : Head) (ks : List Known) (at : ℕ) → isWide (h .form) ≡ true
-    → trueSize h ks at DATA ONES ≡ given (h .ds64 .«data_size»)
+pub true-data : (h : Head) (ks : List Ds64Entry) (at : ℕ) → isWide (h .form) ≡ true
+    → trueSize h ks at DATA ONES ≡ given (record { bytes = h .ds64 .«data_size» })
 unfolding onesSize isWide
 true-data h ks at w = true-ones h ks at DATA ONES (other-placed (h .form) at DATA (λ p. omega arith)) refl ∙ go (h .form) w
   where
-    go : (f : Form) → isWide f ≡ true → onesSize f (h .ds64) ks DATA ≡ given (h .ds64 .«data_size»)
+    go : (f : Form) → isWide f ≡ true → onesSize f (h .ds64) ks DATA ≡ given (record { bytes = h .ds64 .«data_size» })
     go Riff e = absurd (true-false false e refl)
     go Rf64 e = refl
     go Bw64 e = refl

@@ -36,6 +36,17 @@ formOf name =
     (pick (eqb name BW64) (given Bw64)
     (refused NotWave)))
 
+-- The limits of ds64: the most entries ("count is at most 16"), the least payload and an entry ("at least 28 + 12 x count
+-- bytes"). Ds64::LIMIT, Ds64::LEAST and Ds64::ENTRY of the code; the reserve of a RIFF file is as large as the least.
+abbrev pub ENTRIES : ℕ
+ENTRIES = 16
+
+abbrev pub LEAST : ℕ
+LEAST = 28
+
+abbrev pub ENTRY : ℕ
+ENTRY = 12
+
 -- ds64's rules, of the first header's name and size and of the entry count, in a file of len bytes: "must have ds64 as
 -- first chunk, at byte 12", "Its own size field is never all ones", "The payload is at least 28 + 12 x count bytes; count
 -- is at most 16", "payload and pad end by L"
@@ -45,8 +56,8 @@ ds64Good len name size count =
     every
     (eqb name DS64
     ∷ not (eqb size ONES)
-    ∷ leb (28 + 12 * count) size
-    ∷ leb count 16
+    ∷ leb (LEAST + ENTRY * count) size
+    ∷ leb count ENTRIES
     ∷ leb (20 + size + size % 2) len
     ∷ [])
 
@@ -57,12 +68,19 @@ ds64At s = record { «form_size» = number 8 20 s; «data_size» = number 8 28 s
 unfoldable pub noDs64 : Ds64
 noDs64 = record { «form_size» = 0; «data_size» = 0; third = 0; count = 0 }
 
--- check 3 for RIFF, "an all-ones form field"; check 4 for the 64-bit forms
+-- check 4 of the first chunk: the head of a 64-bit form
+unfoldable pub wideAs : Form → List ℕ → Answer Head
+unfolding check
+wideAs f s =
+    check (ds64Good (length s) (number 4 12 s) (number 4 16 s) (number 4 44 s)) BadDs64
+    (given (record { form = f; ds64 = ds64At s }))
+
+-- check 3 for RIFF, "an all-ones form field"; check 4 for the others
 unfoldable pub headAs : Form → List ℕ → Answer Head
 unfolding check
 headAs Riff s = check (not (eqb (number 4 4 s) ONES)) Unfinished (given (record { form = Riff; ds64 = noDs64 }))
-headAs Rf64 s = check (ds64Good (length s) (number 4 12 s) (number 4 16 s) (number 4 44 s)) BadDs64 (given (record { form = Rf64; ds64 = ds64At s }))
-headAs Bw64 s = check (ds64Good (length s) (number 4 12 s) (number 4 16 s) (number 4 44 s)) BadDs64 (given (record { form = Bw64; ds64 = ds64At s }))
+headAs Rf64 s = wideAs Rf64 s
+headAs Bw64 s = wideAs Bw64 s
 
 -- "A size field that is not all ones is the true size. In the 64-bit forms an all-ones form field means the ds64 form size"
 unfoldable pub formSize : Head → ℕ → ℕ
@@ -74,6 +92,11 @@ unfoldable pub wholeForm : ℕ → ℕ → Bool
 unfolding every
 wholeForm len size = every (eqb (8 + size) len ∷ leb 4 size ∷ [])
 
+-- check 5
+unfoldable pub wholeAs : Head → List ℕ → Answer Head
+unfolding check
+wholeAs h s = check (wholeForm (length s) (formSize h (number 4 4 s))) BadFormSize (given h)
+
 -- checks 1 to 5 of the scan
 unfoldable pub headOf : List ℕ → Answer Head
 unfolding check andThen
@@ -82,8 +105,7 @@ headOf s =
     (andThen (formOf (number 4 0 s)) λ form.
     check (eqb (number 4 8 s) WAVE) NotWave
     (andThen (headAs form s) λ h.
-    check (wholeForm (length s) (formSize h (number 4 4 s))) BadFormSize
-    (given h)))
+    wholeAs h s))
 
 -- checks 1, 2 and 5 of the 32-bit walk, which "ignores the form's name and ds64. It ends at L if the form field is all
 -- ones; otherwise 8 + field must equal L, with field at least 4"

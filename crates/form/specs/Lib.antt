@@ -1,3 +1,3 @@
 pub mod Forms
 pub mod Sizes
-pub mod Answers
+pub mod Contracts

@@ -3,6 +3,7 @@ pub mod opening;
 pub mod truesize;
 
 use chunk::Refusal;
+use chunk::TrueSize;
 
 // The form that bytes 0 to 3 of a file name.
 pub enum Form {
@@ -28,6 +29,8 @@ impl Ds64 {
     pub const LEAST: u64 = 28;
 
     pub const ENTRY: u64 = 12;
+    // Where the least payload ends in a file, past the form's 12 bytes and a header: the entries start there.
+    pub const END: u64 = 20 + Ds64::LEAST;
 }
 
 // A form, with the ds64 of a 64-bit one; RIFF has one of zeros.
@@ -42,14 +45,23 @@ pub enum Named {
     Unknown,
 }
 
+// A file whose form is good, and where its other chunks start: in RIFF the first of all, in a 64-bit form past ds64.
+pub struct Start {
+    pub head: Head,
+    // The place of the first of them, if its header is there.
+    pub place: u64,
+    // How many may come.
+    pub room: u64,
+}
+
 // What checks 1 to 5 answer.
 pub enum Opened {
-    Head(Head),
+    Start(Start),
     Refused(Refusal),
 }
 
 // A true size, or why none is known.
 pub enum Size {
-    Bytes(u64),
+    Known(TrueSize),
     Refused(Refusal),
 }

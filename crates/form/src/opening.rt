@@ -4,16 +4,30 @@ use super::Form;
 use super::Head;
 use super::Named;
 use super::Opened;
+use super::Start;
 use chunk::Name;
 use chunk::Refusal;
+use chunk::Table;
 use chunk::Verdict;
 ghost use mathlib.Core.Path.{_≡_};
+ghost use mathlib.Core.Bool.{true};
 ghost use Prim.Native.Nat.{_≤_};
 ghost use lib.ListN.{length};
-ghost use Rattle.le.specs.Number.{number};
 ghost use Rattle.chunk.specs.Refusals.{verdictOf};
-ghost use Rattle.form.specs.Forms.{formOf, ds64Good, headAs, headOf, openFor32};
-ghost use Rattle.form.specs.Answers.{namedAs, openedAs, wideAs, wholeAs};
+ghost use Rattle.form.specs.declared.Form.the-variants.{Riff};
+ghost use Rattle.form.specs.Forms.{formOf, isWide, headOf, openFor32};
+ghost use Rattle.form.specs.Contracts.{namedAs, parsedAs, openedAs, headThen};
+
+// A ds64 that keeps its rules, and the place of the chunk past it.
+pub struct Parsed {
+    pub ds64: Ds64,
+    pub next: u64,
+}
+
+pub enum Parsing {
+    Good(Parsed),
+    Broken,
+}
 
 // The form that a name stands for.
 fn form_of(name: u64) -> Named
@@ -31,98 +45,97 @@ fn form_of(name: u64) -> Named
     Named::Unknown
 }
 
-// Whether the first chunk is a ds64 that keeps its rules.
-fn ds64_good(file: &[u8]) -> bool
-    ensures { λ r. ⌜ r ≡ ds64Good (length (now (file .entry))) (number 4 12 (now (file .entry))) (number 4 16 (now (file .entry))) (number 4 44 (now (file .entry))) ⌝ }
+// The ds64 of a 64-bit form: check 4.
+fn parse(file: &[u8]) -> Parsing
+    ensures { λ r. ⌜ r ≡ parsedAs (now (file .entry)) ⌝ }
 {
     let len = file.len() as u64;
-    if len < 48 {
-        return false;
+    if len < Ds64::END {
+        return Parsing::Broken;
     }
-    let size = le::read4(file, 16);
+    let h = chunk::steps::header(file, 20);
     let count = le::read4(file, 44);
-    if le::read4(file, 12) != Name::DS64 {
-        return false;
+    if h.name != Name::DS64 {
+        return Parsing::Broken;
     }
-    if size == chunk::ONES {
-        return false;
+    if h.field == chunk::ONES {
+        return Parsing::Broken;
     }
     if Ds64::LIMIT < count {
-        return false;
+        return Parsing::Broken;
     }
-    if size < Ds64::LEAST + Ds64::ENTRY * count {
-        return false;
+    if h.field < Ds64::LEAST + Ds64::ENTRY * count {
+        return Parsing::Broken;
     }
-    if len - 20 < size + size % 2 {
-        return false;
-    }
-    true
-}
-
-// A 64-bit form's head, or 4.
-fn wide_head(file: &[u8], form: Form) -> Opened
-    ensures { λ r. ⌜ r ≡ openedAs (wideAs form (now (file .entry))) ⌝ }
-{
-    if !ds64_good(file) {
-        return Opened::Refused(Refusal::BadDs64);
+    let next = chunk::steps::past(20, h.field);
+    if len + 8 < next {
+        return Parsing::Broken;
     }
     let ds64 = Ds64 {
         form_size: le::read8(file, 20),
         data_size: le::read8(file, 28),
         third: le::read8(file, 36),
-        count: le::read4(file, 44),
+        count,
     };
-    Opened::Head(Head { form, ds64 })
+    Parsing::Good(Parsed { ds64, next })
 }
 
-// The head of a form: 3 for RIFF, 4 for the others.
-fn head_of(file: &[u8], form: Form) -> Opened
-    requires { ⌜ 12 ≤ length (now file) ⌝ }
-    ensures { λ r. ⌜ r ≡ openedAs (headAs form (now (file .entry))) ⌝ }
+// A 64-bit form: 4, 5, or the opening.
+fn wide(file: &[u8], form: Form) -> Opened
+    requires { ⌜ (12 ≤ length (now file)) × (isWide form ≡ true) ⌝ }
+    ensures { λ r. ⌜ r ≡ openedAs (now (file .entry)) (headThen form (now (file .entry))) ⌝ }
 {
-    match form {
-        Form::Rf64 => wide_head(file, Form::Rf64),
-        Form::Bw64 => wide_head(file, Form::Bw64),
-        Form::Riff => {
-            if le::read4(file, 4) == chunk::ONES {
-                return Opened::Refused(Refusal::Unfinished);
-            }
-            let ds64 = Ds64 {
-                form_size: 0,
-                data_size: 0,
-                third: 0,
-                count: 0,
-            };
-            Opened::Head(Head {
-                form: Form::Riff,
-                ds64,
-            })
-        }
-    }
-}
-
-// The head where the form is the whole file, or 5.
-fn whole(file: &[u8], h: Head) -> Opened
-    requires { ⌜ 12 ≤ length (now file) ⌝ }
-    ensures { λ r. ⌜ r ≡ openedAs (wholeAs h (now (file .entry))) ⌝ }
-{
-    let rest = file.len() as u64 - 8;
+    let parsing = parse(file);
+    let Parsing::Good(parsed) = parsing else {
+        return Opened::Refused(Refusal::BadDs64);
+    };
     let own = le::read4(file, 4);
+    let ds64 = parsed.ds64;
+    let mut size = own;
     if own == chunk::ONES {
-        if h.ds64.form_size != rest {
-            return Opened::Refused(Refusal::BadFormSize);
-        }
-        return Opened::Head(h);
+        size = ds64.form_size;
     }
-    if own != rest {
+    if size != file.len() as u64 - 8 {
         return Opened::Refused(Refusal::BadFormSize);
     }
-    Opened::Head(h)
+    Opened::Start(Start {
+        head: Head { form, ds64 },
+        place: parsed.next,
+        room: Table::LIMIT as u64 - 1,
+    })
 }
 
-// Checks 1 to 5 of the scan: the form and its ds64, or a refusal.
+// RIFF: 3, 5, or the opening.
+fn riff(file: &[u8]) -> Opened
+    requires { ⌜ 12 ≤ length (now file) ⌝ }
+    ensures { λ r. ⌜ r ≡ openedAs (now (file .entry)) (headThen Riff (now (file .entry))) ⌝ }
+{
+    let own = le::read4(file, 4);
+    if own == chunk::ONES {
+        return Opened::Refused(Refusal::Unfinished);
+    }
+    if own != file.len() as u64 - 8 {
+        return Opened::Refused(Refusal::BadFormSize);
+    }
+    let ds64 = Ds64 {
+        form_size: 0,
+        data_size: 0,
+        third: 0,
+        count: 0,
+    };
+    Opened::Start(Start {
+        head: Head {
+            form: Form::Riff,
+            ds64,
+        },
+        place: 20,
+        room: Table::LIMIT as u64,
+    })
+}
+
+// Checks 1 to 5 of the scan.
 pub fn open(file: &[u8]) -> Opened
-    ensures { λ r. ⌜ r ≡ openedAs (headOf (now (file .entry))) ⌝ }
+    ensures { λ r. ⌜ r ≡ openedAs (now (file .entry)) (headOf (now (file .entry))) ⌝ }
 {
     if file.len() < 12 {
         return Opened::Refused(Refusal::TooShort);
@@ -134,9 +147,10 @@ pub fn open(file: &[u8]) -> Opened
     if le::read4(file, 8) != Name::WAVE {
         return Opened::Refused(Refusal::NotWave);
     }
-    match head_of(file, form) {
-        Opened::Refused(r) => Opened::Refused(r),
-        Opened::Head(h) => whole(file, h),
+    match form {
+        Form::Riff => riff(file),
+        Form::Rf64 => wide(file, Form::Rf64),
+        Form::Bw64 => wide(file, Form::Bw64),
     }
 }
 

@@ -3,33 +3,44 @@ use super::Ds64;
 use super::Form;
 use super::Head;
 use super::Size;
-use chunk::Due;
+use chunk::Header;
 use chunk::Name;
 use chunk::Refusal;
 use chunk::Step;
-use chunk::Verdict;
+use chunk::TrueSize;
 ghost use mathlib.Core.Path.{_≡_};
-ghost use mathlib.Core.Bool.{_&&_, not};
 ghost use Prim.Native.Nat.{_+_, _*_, _≤_};
 ghost use lib.ListN.{length, drop};
-ghost use lib.Dec.{eqb};
-ghost use Rattle.chunk.specs.Walks.{stepAt};
-ghost use Rattle.form.specs.Forms.{isWide};
-ghost use Rattle.form.specs.Sizes.{entriesIn, entrySize, entriesOf, knownSize, trueSize, strayDs64};
-ghost use Rattle.form.specs.Answers.{sizeAs, EntriesFit};
+ghost use Rattle.chunk.specs.Contracts.{HeaderAt, foundAs, stepOn};
+ghost use Rattle.form.specs.Forms.{isWide, LEAST, ENTRY};
+ghost use Rattle.form.specs.Sizes.{entriesIn, entriesOf, entrySize, knownSize, onesSize, trueSize};
+ghost use Rattle.form.specs.Contracts.{sizeAs, EntriesFit, Knows, IsKnown, Past};
+
+// Whether a form has a ds64.
+pub fn is_wide(form: Form) -> bool
+    ensures { λ r. ⌜ r ≡ isWide form ⌝ }
+{
+    match form {
+        Form::Riff => false,
+        Form::Rf64 => true,
+        Form::Bw64 => true,
+    }
+}
 
 // The size that the first entry of a name gives, or 7.
 fn entry_size(file: &[u8], count: u64, name: u64) -> Size
-    requires { ⌜ 48 + 12 * count ≤ length (now file) ⌝ }
-    ensures { λ r. ⌜ r ≡ sizeAs (entrySize name (entriesIn count (drop 48 (now (file .entry))))) ⌝ }
+    requires { ⌜ 20 + LEAST + ENTRY * count ≤ length (now file) ⌝ }
+    ensures { λ r. ⌜ r ≡ sizeAs (entrySize name (entriesIn count (drop (20 + LEAST) (now (file .entry))))) ⌝ }
 {
     let mut left = count;
-    let mut at: usize = 48;
+    let mut at = Ds64::END as usize;
     while 0 < left {
         if le::read4(file, at) == name {
-            return Size::Bytes(le::read8(file, at + 4));
+            return Size::Known(TrueSize {
+                bytes: le::read8(file, at + 4),
+            });
         }
-        at += 12;
+        at += Ds64::ENTRY as usize;
         left -= 1;
     }
     Size::Refused(Refusal::UnknownSize)
@@ -37,59 +48,78 @@ fn entry_size(file: &[u8], count: u64, name: u64) -> Size
 
 // What ds64 says of a chunk whose own field is all ones.
 fn known_size(file: &[u8], ds64: Ds64, name: u64) -> Size
-    requires { ⌜ 48 + 12 * ds64 .count ≤ length (now file) ⌝ }
-    ensures { λ r. ⌜ r ≡ sizeAs (knownSize ds64 (entriesIn (ds64 .count) (drop 48 (now (file .entry)))) name) ⌝ }
+    requires { ⌜ 20 + LEAST + ENTRY * ds64 .count ≤ length (now file) ⌝ }
+    ensures { λ r. ⌜ r ≡ sizeAs (knownSize ds64 (entriesIn (ds64 .count) (drop (20 + LEAST) (now (file .entry)))) name) ⌝ }
 {
     if name == Name::DATA {
-        return Size::Bytes(ds64.data_size);
+        return Size::Known(TrueSize {
+            bytes: ds64.data_size,
+        });
     }
     entry_size(file, ds64.count, name)
 }
 
-// Whether a header names a ds64 that does not stand first in a 64-bit form.
-fn stray_ds64(form: Form, at: u64, name: u64) -> bool
-    ensures { λ r. ⌜ r ≡ strayDs64 form at name ⌝ }
-{
-    if name != Name::DS64 {
-        return false;
-    }
-    match form {
-        Form::Riff => true,
-        Form::Rf64 => at != 12,
-        Form::Bw64 => at != 12,
-    }
-}
-
-// The true size of a chunk whose header stands at an offset: 4, its own field, or what ds64 knows, or 7.
-fn true_size(file: &[u8], head: Head, at: u64, name: u64, own: u64) -> Size
+// The same, 7 in RIFF.
+fn ones_size(file: &[u8], head: Head, name: u64) -> Size
     requires { ⌜ EntriesFit head (now file) ⌝ }
-    ensures { λ r. ⌜ r ≡ sizeAs (trueSize head (entriesOf head (now (file .entry))) at name own) ⌝ }
+    ensures { λ r. ⌜ r ≡ sizeAs (onesSize (head .form) (head .ds64) (entriesOf head (now (file .entry))) name) ⌝ }
 {
     let form = head.form;
-    if stray_ds64(form, at, name) {
-        return Size::Refused(Refusal::BadDs64);
-    }
-    if own != chunk::ONES {
-        return Size::Bytes(own);
-    }
     let ds64 = head.ds64;
-    match form {
-        Form::Riff => Size::Refused(Refusal::UnknownSize),
-        Form::Rf64 => known_size(file, ds64, name),
-        Form::Bw64 => known_size(file, ds64, name),
+    if !is_wide(form) {
+        return Size::Refused(Refusal::UnknownSize);
+    }
+    known_size(file, ds64, name)
+}
+
+// The size of a chunk that ds64 is known to give: nothing is left to refuse.
+pub fn known(file: &[u8], head: Head, name: u64) -> TrueSize
+    requires { ⌜ Knows head (now file) name ⌝ }
+    ensures { λ r. ⌜ IsKnown head (now (file .entry)) name r ⌝ }
+{
+    if name == Name::DATA {
+        return TrueSize {
+            bytes: head.ds64.data_size,
+        };
+    }
+    let mut at = Ds64::END as usize;
+    while le::read4(file, at) != name {
+        at += Ds64::ENTRY as usize;
+    }
+    TrueSize {
+        bytes: le::read8(file, at + 4),
     }
 }
 
-// A step of the scan's walk.
-pub fn step(file: &[u8], head: Head, at: u64, room: u64) -> Step
-    requires { ⌜ (at ≤ length (now file)) × EntriesFit head (now file) ⌝ }
-    ensures { λ r. ⌜ r ≡ stepAt (trueSize head (entriesOf head (now (file .entry)))) (now (file .entry)) room at ⌝ }
+// The step over a header whose field is all ones.
+fn step_ones(file: &[u8], head: Head, place: u64, name: u64) -> Step
+    requires { ⌜ Past head (now file) place ⌝ }
+    ensures { λ r. ⌜ r ≡ foundAs (length (now (file .entry))) place name (onesSize (head .form) (head .ds64) (entriesOf head (now (file .entry))) name) ⌝ }
 {
-    match chunk::header::due(file, at, room) {
-        Due::Stop(v) => Step::Stop(v),
-        Due::Header(name, own) => match true_size(file, head, at, name, own) {
-            Size::Refused(r) => Step::Stop(Verdict::Refused(r)),
-            Size::Bytes(size) => chunk::header::place(file.len() as u64, at, name, size),
-        },
+    let len = file.len() as u64;
+    match ones_size(file, head, name) {
+        Size::Refused(r) => Step::Stop(r),
+        Size::Known(size) => {
+            if len - place < size.bytes {
+                return Step::Stop(Refusal::PastEnd);
+            }
+            chunk::steps::found(len, place, name, size)
+        }
     }
+}
+
+// A step of the scan past ds64: a ds64 is out of place (4), a field that isn't all ones is the size, and ds64 knows the
+// others (7).
+pub fn step(file: &[u8], head: Head, place: u64, h: Header) -> Step
+    requires { ⌜ Past head (now file) place × HeaderAt place (now file) h ⌝ }
+    ensures { λ r. ⌜ r ≡ stepOn (trueSize head (entriesOf head (now (file .entry)))) (now (file .entry)) place ⌝ }
+{
+    if h.name == Name::DS64 {
+        return Step::Stop(Refusal::BadDs64);
+    }
+    if h.field == chunk::ONES {
+        return step_ones(file, head, place, h.name);
+    }
+    let size = TrueSize { bytes: h.field };
+    chunk::steps::found(file.len() as u64, place, h.name, size)
 }

@@ -4,12 +4,11 @@
 use mathlib.Core.Path.{_≡_, refl, sym, ap, ap₂, _∙_, subst}
 use mathlib.Core.List.{List, [], _∷_, _++_, append-assoc}
 use mathlib.Core.Logic.{_⊎_, inl, inr}
-use Prim.Native.Nat.{ℕ, zero, suc, _+_, _-_, _*_, _/_, _%_, _^_, _≤_, _<_, min}
-use native.Mathlib.Nat.{pow-zero, pow-suc, pow-succ', mul-assoc, mul-comm, add-suc, suc-add, add-zero, zero-add, div-add-mod, mod-lt, div-lt-iff-lt-mul, div-div-eq-div-mul, div-one}
+use Prim.Native.Nat.{ℕ, zero, suc, _+_, _*_, _/_, _^_, _≤_, _<_}
+use native.Mathlib.Nat.{pow-zero, pow-suc, pow-succ', mul-assoc, add-suc, suc-add, add-zero, zero-add, div-add-mod, mod-lt, div-lt-iff-lt-mul, div-div-eq-div-mul, div-one}
 use native.Mathlib.Omega.{arith}
-use native.Mathlib.Numerals.{add-one}
-use lib.ListN.{length, set, take, drop, getD, length-take, length-drop, length-append, take-append-drop}
-use lib.Seq.{take-add, drop-drop, drop-cons, sets, sets-eq, length-sets, take-append-le, drop-append-le, drop-append-add, take-at, drop-at, length-take-le, take-take, getD-drop, drop-set-lt, take-set-le}
+use lib.ListN.{length, set, take, drop, getD, length-drop, take-append-drop}
+use lib.Seq.{take-add, drop-drop, drop-cons, sets, sets-eq, length-sets, take-at, drop-at, length-take-le, getD-drop, drop-set-lt, take-set-le}
 use lib.Dec.{lit<}
 use Rattle.le.specs.Number.{Bytes, value, bytes, field, number, stored}
 

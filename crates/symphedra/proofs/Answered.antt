@@ -15,21 +15,20 @@ use Rattle.chunk.specs.Refusals.{verdictNumber, verdictOf}
 use Rattle.chunk.proofs.Checks.{pick-true, pick-false}
 use Rattle.wave.specs.Scans.{scan, rowsOf, walk32}
 use Rattle.wave.specs.Words.{ScanDone, WalkDone}
-use Rattle.chunk.specs.Tables.{tabled}
+use Rattle.chunk.specs.Tables.{tabled, WORDS}
 use Rattle.upgrade.specs.declared.Target.{Target}
 use Rattle.upgrade.specs.Words.{UpgradeDone}
 use Rattle.symphedra.specs.Exports.{Answers, Upgrades}
 
-pub short : (least : ℕ) (v : Verdict) (new w : List ℕ) → length w < least → Answers least v new w 15 w
-short least v new w h =
+pub short : (least n : ℕ) (new w : List ℕ) → length w < least → Answers least n new w 15 w
+short least n new w h =
     let e = lt-leb least (length w) h in
-    record { number = sym (pick-false _ _ _ e); words = sym (pick-false _ _ _ e) }
+    record { returns = sym (pick-false _ _ _ e); words = sym (pick-false _ _ _ e) }
 
-pub answered : (least : ℕ) (v : Verdict) (new w w' : List ℕ) (r : ℕ) → least ≤ length w → r ≡ verdictNumber v → w' ≡ new
-    → Answers least v new w r w'
-answered least v new w w' r h n q =
+pub answered : (least n : ℕ) (new w w' : List ℕ) (r : ℕ) → least ≤ length w → r ≡ n → w' ≡ new → Answers least n new w r w'
+answered least n new w w' r h p q =
     let e = le-leb least (length w) h in
-    record { number = n ∙ sym (pick-true _ _ _ e); words = q ∙ sym (pick-true _ _ _ e) }
+    record { returns = p ∙ sym (pick-true _ _ _ e); words = q ∙ sym (pick-true _ _ _ e) }
 
 -- the number of a verdict that has 15 where the words are too few
 numbered : (b : Bool) (v : Verdict) → verdictNumber (pick b v (Refused ShortOutput)) ≡ pick b (verdictNumber v) 15
@@ -38,14 +37,14 @@ numbered true v = refl
 numbered false v = refl
 
 pub scan-number : (s w w' : List ℕ) (v : Verdict) (r : ℕ) → ScanDone s w v w' → r ≡ verdictNumber v
-    → Answers 257 (verdictOf (scan s)) (tabled (rowsOf (scan s)) w) w r w'
+    → Answers WORDS (verdictNumber (verdictOf (scan s))) (tabled (rowsOf (scan s)) w) w r w'
 scan-number s w w' v r d n =
-    record { number = n ∙ ap verdictNumber (d .verdict) ∙ numbered (leb 257 (length w)) _; words = d .words }
+    record { returns = n ∙ ap verdictNumber (d .verdict) ∙ numbered (leb WORDS (length w)) _; words = d .words }
 
 pub walk-number : (s w w' : List ℕ) (v : Verdict) (r : ℕ) → WalkDone s w v w' → r ≡ verdictNumber v
-    → Answers 257 (walk32 s .end) (tabled (walk32 s .rows) w) w r w'
+    → Answers WORDS (verdictNumber (walk32 s .end)) (tabled (walk32 s .rows) w) w r w'
 walk-number s w w' v r d n =
-    record { number = n ∙ ap verdictNumber (d .verdict) ∙ numbered (leb 257 (length w)) _; words = d .words }
+    record { returns = n ∙ ap verdictNumber (d .verdict) ∙ numbered (leb WORDS (length w)) _; words = d .words }
 
 pub upgrade-number : (t : Target) (s u : List ℕ) (v : Verdict) (r : ℕ) → UpgradeDone t s v u → r ≡ verdictNumber v → Upgrades t s r u
 upgrade-number t s u v r d n = record { number = n ∙ ap verdictNumber (d .verdict); bytes = d .bytes }

@@ -6,8 +6,8 @@ use mathlib.Core.List.{List, [], _∷_, _++_, append-nil}
 use mathlib.Core.Bool.{Bool, true, false}
 use Prim.Native.Nat.{ℕ, _≤_}
 use native.Mathlib.Omega.{arith}
-use lib.ListN.{length, take, drop, set}
-use lib.Seq.{take-length, drop-length}
+use lib.ListN.{length, take, drop}
+use lib.Seq.{sets, take-length, drop-length}
 use lib.Dec.{eqb, leb}
 use borrow.Author.Tests.{le-leb, lt-leb, ne-eqb}
 use Rattle.le.specs.Choice.{pick}
@@ -16,9 +16,10 @@ use Rattle.chunk.specs.declared.Refusal.the-variants.{ShortOutput}
 use Rattle.chunk.specs.declared.Written.{Written}
 use Rattle.chunk.specs.declared.Written.the-variants as written
 use Rattle.chunk.specs.Refusals.{Answer, refused, given, check, andThen}
-use Rattle.chunk.specs.Writes.{fitting, writtenOf, outputOf}
+use Rattle.chunk.specs.Writes.{fitting, writtenOf, writtenNumber, writtenValues, outputOf}
 use Rattle.chunk.proofs.Checks.{pick-false, picked, check-true, check-false}
-use Rattle.symphedra.specs.Writers.{counted, numberFor, countFor, Tells, WritesOut}
+use Rattle.symphedra.specs.Writers.{counted, WritesOut}
+use Rattle.symphedra.specs.Contracts.{Tells}
 
 -- what is to be written is not empty
 abbrev pub Filled : Answer (List ℕ) → Type 0
@@ -95,9 +96,11 @@ part out w n e = subst (λ (k : ℕ). k ≤ length out) (sym e) (picked (λ (k :
 
 -- ---- the word
 
-pub no-word : (w : List ℕ) (n : ℕ) → length w ≡ 0 → w ≡ set w 0 n
-no-word [] n h = refl
-no-word (x ∷ xs) n h = absurd (omega (arith, h))
+pub no-word : (w : List ℕ) (x : Written) → length w ≡ 0 → w ≡ sets w 0 (writtenValues x)
+unfolding writtenValues
+no-word [] (written.Bytes n) h = refl
+no-word [] (written.Refused r) h = refl
+no-word (v ∷ vs) x h = absurd (omega (arith, h))
 
 -- ---- the export
 
@@ -108,9 +111,9 @@ pub wrote : (a : Answer (List ℕ)) (out w u w' : List ℕ) (n : ℕ) (x : Writt
 wrote a out w u w' n x r h e answers leaves t =
     let l = lent out w n a h e in
     record {
-      number = t .number ∙ ap numberFor (answers ∙ l .answer);
+      number = t .number ∙ ap writtenNumber (answers ∙ l .answer);
       bytes = ap (λ (s : List ℕ). s ++ drop n out) leaves ∙ l .output;
-      words = t .words ∙ ap (λ (y : Written). set w 0 (countFor y)) (answers ∙ l .answer);
+      words = t .words ∙ ap (λ (y : Written). sets w 0 (writtenValues y)) (answers ∙ l .answer);
     }
 
 -- what is refused before the writer is called
@@ -120,7 +123,7 @@ unfolding counted fitting writtenOf outputOf
 refuses a why out w w' r e t =
     let q : counted out w a ≡ refused why = ap (counted out w) e in
     record {
-      number = t .number ∙ sym (ap (λ (y : Answer (List ℕ)). numberFor (writtenOf y)) q);
+      number = t .number ∙ sym (ap (λ (y : Answer (List ℕ)). writtenNumber (writtenOf y)) q);
       bytes = sym (ap (outputOf out) q);
-      words = t .words ∙ sym (ap (λ (y : Answer (List ℕ)). set w 0 (countFor (writtenOf y))) q);
+      words = t .words ∙ sym (ap (λ (y : Answer (List ℕ)). sets w 0 (writtenValues (writtenOf y))) q);
     }

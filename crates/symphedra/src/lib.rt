@@ -8,18 +8,18 @@ use upgrade::Target;
 use wave::Samples;
 ghost use mathlib.Core.Path.{_≡_};
 ghost use lib.Seq.{sets};
-ghost use Rattle.chunk.specs.Refusals.{verdictOf};
-ghost use Rattle.chunk.specs.Tables.{tabled};
-ghost use Rattle.fmt.specs.Formats.{formatIn, readAs as fmtRead};
-ghost use Rattle.bext.specs.Records.{bextIn, readAs as bextRead};
-ghost use Rattle.chna.specs.Records.{chnaIn, readAs as chnaRead};
-ghost use Rattle.wave.specs.Scans.{scan, rowsOf, walk32, samplesOf};
-ghost use Rattle.symphedra.specs.Exports.{Answers, Upgrades, samplesVerdict, samplesWords, fmtVerdict, fmtWords, flagOf, bextVerdict, bextWords, chnaVerdict, chnaWords, rf64, bw64};
+ghost use Rattle.chunk.specs.Refusals.{verdictNumber, verdictOf};
+ghost use Rattle.chunk.specs.Tables.{tabled, WORDS};
+ghost use Rattle.fmt.specs.Formats.{formatIn, readAs as fmtRead, fmtNumber, fmtValues};
+ghost use Rattle.bext.specs.Records.{bextIn, readAs as bextRead, flagOf, bextNumber, bextValues};
+ghost use Rattle.chna.specs.Records.{chnaIn, readAs as chnaRead, chnaNumber, chnaValues};
+ghost use Rattle.wave.specs.Scans.{scan, rowsOf, walk32, samplesOf, samplesNumber, samplesValues};
+ghost use Rattle.symphedra.specs.Exports.{Answers, Upgrades, rf64, bw64};
 
 // The table of a file's chunks, or its refusal and no chunk.
 #[no_mangle]
 pub extern "C" fn symphedra_scan(file: &[u8], table: &mut [u64]) -> u32
-    ensures { λ r. ⌜ Answers 257 (verdictOf (scan (now (file .entry)))) (tabled (rowsOf (scan (now (file .entry)))) (now (table .entry))) (now (table .entry)) r (now (table .exit)) ⌝ }
+    ensures { λ r. ⌜ Answers WORDS (verdictNumber (verdictOf (scan (now (file .entry))))) (tabled (rowsOf (scan (now (file .entry)))) (now (table .entry))) (now (table .entry)) r (now (table .exit)) ⌝ }
 {
     wave::scan_into(file, table).number()
 }
@@ -27,7 +27,7 @@ pub extern "C" fn symphedra_scan(file: &[u8], table: &mut [u64]) -> u32
 // What the 32-bit walk shows, and its stop.
 #[no_mangle]
 pub extern "C" fn symphedra_walk32(file: &[u8], table: &mut [u64]) -> u32
-    ensures { λ r. ⌜ Answers 257 (walk32 (now (file .entry)) .end) (tabled (walk32 (now (file .entry)) .rows) (now (table .entry))) (now (table .entry)) r (now (table .exit)) ⌝ }
+    ensures { λ r. ⌜ Answers WORDS (verdictNumber (walk32 (now (file .entry)) .end)) (tabled (walk32 (now (file .entry)) .rows) (now (table .entry))) (now (table .entry)) r (now (table .exit)) ⌝ }
 {
     wave::walk32_into(file, table).number()
 }
@@ -35,7 +35,7 @@ pub extern "C" fn symphedra_walk32(file: &[u8], table: &mut [u64]) -> u32
 // 1 and the sample count, or two zeros.
 #[no_mangle]
 pub extern "C" fn symphedra_sample_count(file: &[u8], out: &mut [u64]) -> u32
-    ensures { λ r. ⌜ Answers 2 (samplesVerdict (samplesOf (now (file .entry)))) (sets (now (out .entry)) 0 (samplesWords (samplesOf (now (file .entry))))) (now (out .entry)) r (now (out .exit)) ⌝ }
+    ensures { λ r. ⌜ Answers 2 (samplesNumber (samplesOf (now (file .entry)))) (sets (now (out .entry)) 0 (samplesValues (samplesOf (now (file .entry))))) (now (out .entry)) r (now (out .exit)) ⌝ }
 {
     if out.len() < 2 {
         return 15;
@@ -78,7 +78,7 @@ pub extern "C" fn symphedra_upgrade_bw64(file: &mut [u8]) -> u32
 // The nine words of a format record, or zeros.
 #[no_mangle]
 pub extern "C" fn symphedra_read_fmt(payload: &[u8], record: &mut [u64]) -> u32
-    ensures { λ r. ⌜ Answers 9 (fmtVerdict (fmtRead (formatIn (now (payload .entry))))) (sets (now («record» .entry)) 0 (fmtWords (fmtRead (formatIn (now (payload .entry)))))) (now («record» .entry)) r (now («record» .exit)) ⌝ }
+    ensures { λ r. ⌜ Answers 9 (fmtNumber (fmtRead (formatIn (now (payload .entry))))) (sets (now («record» .entry)) 0 (fmtValues (fmtRead (formatIn (now (payload .entry)))))) (now («record» .entry)) r (now («record» .exit)) ⌝ }
 {
     if record.len() < 9 {
         return 15;
@@ -121,7 +121,7 @@ fn flag(b: bool) -> u64
 // The eight words of a bext record, or zeros.
 #[no_mangle]
 pub extern "C" fn symphedra_read_bext(payload: &[u8], out: &mut [u64]) -> u32
-    ensures { λ r. ⌜ Answers 8 (bextVerdict (bextRead (bextIn (now (payload .entry))))) (sets (now (out .entry)) 0 (bextWords (bextRead (bextIn (now (payload .entry)))))) (now (out .entry)) r (now (out .exit)) ⌝ }
+    ensures { λ r. ⌜ Answers 8 (bextNumber (bextRead (bextIn (now (payload .entry))))) (sets (now (out .entry)) 0 (bextValues (bextRead (bextIn (now (payload .entry)))))) (now (out .entry)) r (now (out .exit)) ⌝ }
 {
     if out.len() < 8 {
         return 15;
@@ -155,7 +155,7 @@ pub extern "C" fn symphedra_read_bext(payload: &[u8], out: &mut [u64]) -> u32
 // The three words of a chna record, or zeros.
 #[no_mangle]
 pub extern "C" fn symphedra_read_chna(payload: &[u8], channels: u16, out: &mut [u64]) -> u32
-    ensures { λ r. ⌜ Answers 3 (chnaVerdict (chnaRead (chnaIn channels (now (payload .entry))))) (sets (now (out .entry)) 0 (chnaWords (chnaRead (chnaIn channels (now (payload .entry)))))) (now (out .entry)) r (now (out .exit)) ⌝ }
+    ensures { λ r. ⌜ Answers 3 (chnaNumber (chnaRead (chnaIn channels (now (payload .entry))))) (sets (now (out .entry)) 0 (chnaValues (chnaRead (chnaIn channels (now (payload .entry)))))) (now (out .entry)) r (now (out .exit)) ⌝ }
 {
     if out.len() < 3 {
         return 15;

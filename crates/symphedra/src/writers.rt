@@ -4,17 +4,20 @@ use chunk::Written;
 use fmt::Format;
 use form::Form;
 ghost use mathlib.Core.Path.{_≡_};
+ghost use mathlib.Core.List.{[], _∷_};
 ghost use lib.ListN.{length};
 ghost use lib.Dec.{eqb};
 ghost use Rattle.le.specs.Choice.{pick};
+ghost use Rattle.chunk.specs.Writes.{writtenNumber, writtenValues};
 ghost use Rattle.fmt.specs.Writing.{formatOut};
 ghost use Rattle.bext.specs.Writing.{asked, bextOut};
 ghost use Rattle.chna.specs.Records.{chnaFrom};
-ghost use Rattle.symphedra.specs.Writers.{numberFor, countFor, Tells, WritesOut, formatOf, ofNine, riff, rf64, bw64, fileOf};
+ghost use Rattle.symphedra.specs.Writers.{WritesOut, formatOf, ofNine, riff, rf64, bw64, fileOf};
+ghost use Rattle.symphedra.specs.Contracts.{Tells};
 
 // The number of an answer.
 fn number_of(answer: Written) -> u32
-    ensures { λ r. ⌜ r ≡ numberFor answer ⌝ }
+    ensures { λ r. ⌜ r ≡ writtenNumber answer ⌝ }
 {
     match answer {
         Written::Bytes(_) => 0,
@@ -24,7 +27,7 @@ fn number_of(answer: Written) -> u32
 
 // The bytes that an answer says were written.
 fn count_of(answer: Written) -> u64
-    ensures { λ r. ⌜ r ≡ countFor answer ⌝ }
+    ensures { λ r. ⌜ writtenValues answer ≡ r ∷ [] ⌝ }
 {
     match answer {
         Written::Bytes(n) => n,

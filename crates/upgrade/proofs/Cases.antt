@@ -6,7 +6,7 @@ use Rattle.le.specs.Choice.{pick, every}
 use Rattle.chunk.specs.Refusals.{check, andThen}
 use Rattle.chunk.specs.Tables.{count, find}
 use Rattle.chunk.specs.Walks.{past, placed, sized, step, stepAt, follow, walk, ownSize}
-use Rattle.form.specs.Forms.{isWide, formOf, ds64Good, ds64At, noDs64, headAs, formSize, wholeForm, headOf, openFor32}
+use Rattle.form.specs.Forms.{isWide, formOf, ds64Good, ds64At, noDs64, wideAs, headAs, formSize, wholeForm, wholeAs, headOf, openFor32}
 use Rattle.form.specs.Sizes.{entriesIn, entriesOf, entrySize, onesSize, trueSize}
 use Rattle.fmt.specs.Formats.{sizeGood, bitsGood, samplesGood, validGood, recordGood, extraGood, recordIn, formatIn}
 use Rattle.wave.specs.Scans.{endedAs, chunksGood, headers, listing, payload, wholeBlocks, judged, scan, walkFrom, walk32}
@@ -14,5 +14,5 @@ use Rattle.upgrade.specs.Upgrades.{patch, halves, hasFact, frames, third
 use Rattle.upgrade.specs.Cases.{file, cells, scanned, walked, onto, fine, case, ones, cases, agree}
 
 pub the-cases : agree cases
-unfolding value bytes field number stored pick every check andThen count find past placed sized step stepAt follow walk ownSize isWide formOf ds64Good ds64At noDs64 headAs formSize wholeForm headOf openFor32 entriesIn entriesOf entrySize onesSize trueSize sizeGood bitsGood samplesGood validGood recordGood extraGood recordIn formatIn endedAs chunksGood headers listing payload wholeBlocks judged scan walkFrom walk32 patch halves hasFact frames thirdFor factPatch targetName patches patched reserved upgraded file cells scanned walked onto fine case ones cases agree
+unfolding value bytes field number stored pick every check andThen count find past placed sized step stepAt follow walk ownSize isWide formOf ds64Good ds64At noDs64 wideAs headAs formSize wholeForm wholeAs headOf openFor32 entriesIn entriesOf entrySize onesSize trueSize sizeGood bitsGood samplesGood validGood recordGood extraGood recordIn formatIn endedAs chunksGood headers listing payload wholeBlocks judged scan walkFrom walk32 patch halves hasFact frames thirdFor factPatch targetName patches patched reserved upgraded file cells scanned walked onto fine case ones cases agree
 the-cases = (refl, (refl, (refl, (refl, (refl, (refl, (refl, (refl, (refl, (refl, (refl, (refl, (refl, tt)))))))))))))

@@ -14,11 +14,9 @@ use Rattle.form.specs.declared.Head.{Head}
 use Rattle.form.specs.Forms.{isWide}
 use Rattle.fmt.specs.declared.Format.{Format}
 use Rattle.wave.specs.Scans.{Scan, scan}
-use Rattle.wave.specs.declared.Samples.the-variants as samples
 use Rattle.wave.proofs.Scanned.{scan-scanned}
 use Rattle.wave.proofs.FirstHalf.{first-half}
 use Rattle.upgrade.specs.declared.Target.{Target}
-use Rattle.upgrade.specs.declared.Target.the-variants as target
 use Rattle.upgrade.specs.Upgrades.{patches, patched}
 use Rattle.upgrade.specs.Demand3.{Reserved, Upgraded, SecondHalf, Demand3}
 use Rattle.upgrade.proofs.Stores.{holds}

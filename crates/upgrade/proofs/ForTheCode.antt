@@ -1,26 +1,23 @@
 -- Demand 3 for the code: the contracts say that the code answers what the definitions answer, and the theorems say the rest.
 -- Assumes nothing.
-use mathlib.Core.Path.{_≡_, refl, sym, _∙_, ap, ap₂, subst}
+use mathlib.Core.Path.{_≡_, refl, sym, _∙_, ap, subst}
 use mathlib.Core.List.{List}
-use mathlib.Core.Logic.{_↔_}
 use Prim.Native.Nat.{ℕ}
 use native.Mathlib.Omega.{arith}
 use Rattle.le.specs.Number.{Bytes}
 use Rattle.chunk.specs.declared.Verdict.{Verdict}
-use Rattle.chunk.specs.declared.Verdict.the-variants.{Accepted, Refused}
-use Rattle.chunk.specs.declared.Refusal.the-variants.{NoReserve}
+use Rattle.chunk.specs.declared.Verdict.the-variants.{Accepted}
 use Rattle.chunk.specs.Refusals.{Answer, refused, given, verdictOf}
 use Rattle.chunk.specs.Tables.{tableOf}
 use Rattle.chunk.specs.Walks.{Walked}
-use Rattle.form.specs.declared.Form.the-variants.{Riff}
 use Rattle.wave.specs.Scans.{Scan, scan, rowsOf}
 use Rattle.wave.specs.Words.{scanTable, walkTable}
 use Rattle.wave.proofs.FirstHalf.{first-half}
 use Rattle.upgrade.specs.declared.Target.{Target}
 use Rattle.upgrade.specs.Upgrades.{upgraded}
-use Rattle.upgrade.specs.Demand3.{Reserved, Upgraded}
+use Rattle.upgrade.specs.Demand3.{Upgraded}
 use Rattle.upgrade.specs.Words.{fileAfter, UpgradeDone}
-use Rattle.upgrade.specs.ForTheCode.{Walks, Upgrading, Demand3ForTheCode}
+use Rattle.upgrade.specs.ForTheCode.{Walks, KeepsDemand3, Demand3ForTheCode}
 use Rattle.upgrade.proofs.Demand3.{second-half}
 
 accepts : {A : Type 0} (x : Answer A) → verdictOf x ≡ Accepted → (a : A) × (x ≡ given a)
@@ -39,10 +36,9 @@ walks s e =
       walked = ap (λ (w : Walked). record { table = tableOf (w .rows); verdict = w .end }) (first-half s (a .0) (a .1) .walk);
     }
 
-upgrades : (t : Target) (s : List ℕ) (a : Scan) (r : Verdict) (u : List ℕ) → Bytes s → scan s ≡ given a
-    → a .head .form ≡ Riff → UpgradeDone t s r u → Upgrading t s a r u
+pub keeps : (t : Target) (s : List ℕ) (r : Verdict) (u : List ℕ) → Bytes s → UpgradeDone t s r u → KeepsDemand3 t s r u
 unfolding verdictOf fileAfter
-upgrades t s a r u b e f d =
+keeps t s r u b d a e f =
     let h = second-half t s a b e f in
     let same : (v : List ℕ) → upgraded t s ≡ given v → u ≡ v = λ v q. d .bytes ∙ ap (fileAfter s) q in
     record {
@@ -57,4 +53,4 @@ upgrades t s a r u b e f d =
     }
 
 pub demand-3-for-the-code : Demand3ForTheCode
-demand-3-for-the-code = record { walks = walks; upgrades = upgrades }
+demand-3-for-the-code = record { walks = walks; upgrades = keeps }

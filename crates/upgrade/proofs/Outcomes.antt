@@ -11,11 +11,9 @@ use Rattle.chunk.specs.declared.Refusal.the-variants.{NoReserve}
 use Rattle.chunk.specs.Names.{JUNK}
 use Rattle.chunk.specs.Refusals.{refused, given, check}
 use Rattle.chunk.proofs.Checks.{true-false, given-inj, check-true, check-false, check-given, andThen-at, andThen-refused, and-true}
-use Rattle.form.specs.Forms.{isWide}
+use Rattle.form.specs.Forms.{isWide, LEAST}
 use Rattle.wave.specs.Scans.{Scan, scan}
-use Rattle.wave.specs.declared.Samples.the-variants as samples
 use Rattle.upgrade.specs.declared.Target.{Target}
-use Rattle.upgrade.specs.declared.Target.the-variants as target
 use Rattle.upgrade.specs.Upgrades.{patches, patched, reserved, upgraded}
 use Rattle.upgrade.specs.Demand3.{Reserved}
 use Rattle.chunk.specs.declared.Refusal.{Refusal}
@@ -27,13 +25,13 @@ pub reserved-true : (rows : List Entry) → reserved rows ≡ true → Reserved 
 unfolding reserved Reserved
 reserved-true [] e = true-false false e refl
 reserved-true (x ∷ xs) e =
-    let c = and-true (eqb (x .name) JUNK) (leb 28 (x .size)) e in
-    (eqb-true (x .name) JUNK (c .0), leb-true 28 (x .size) (c .1))
+    let c = and-true (eqb (x .name) JUNK) (leb LEAST (x .size)) e in
+    (eqb-true (x .name) JUNK (c .0), leb-true LEAST (x .size) (c .1))
 
 pub true-reserved : (rows : List Entry) → Reserved rows → reserved rows ≡ true
 unfolding reserved Reserved
 true-reserved [] r = absurd r
-true-reserved (x ∷ xs) r = rw (eq-eqb (x .name) JUNK (r .0), le-leb 28 (x .size) (r .1))
+true-reserved (x ∷ xs) r = rw (eq-eqb (x .name) JUNK (r .0), le-leb LEAST (x .size) (r .1))
 
 pub not-reserved : (rows : List Entry) → (Reserved rows → ⊥) → reserved rows ≡ false
 not-reserved rows n = go (reserved rows) refl

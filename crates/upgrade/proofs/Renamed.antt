@@ -16,7 +16,6 @@ use Rattle.chunk.proofs.Checks.{pick-true, pick-false}
 use Rattle.chunk.proofs.Finds.{First, hit, miss, first}
 use Rattle.form.specs.declared.Head.{Head}
 use Rattle.form.specs.Forms.{nameOf, isWide, ds64At}
-use Rattle.wave.specs.declared.Samples.the-variants as samples
 use Rattle.wave.proofs.Scanned.{Chunked}
 use Rattle.upgrade.specs.declared.Target.{Target}
 use Rattle.upgrade.specs.declared.Target.the-variants as target

@@ -25,7 +25,7 @@ use Rattle.chunk.proofs.Finds.{First, hit, miss, first, found}
 use Rattle.form.specs.declared.Form.{Form}
 use Rattle.form.specs.declared.Form.the-variants.{Riff}
 use Rattle.form.specs.declared.Head.{Head}
-use Rattle.form.specs.Forms.{headAs, formSize}
+use Rattle.form.specs.Forms.{headAs, formSize, LEAST}
 use Rattle.form.specs.Sizes.{trueSize, entriesOf}
 use Rattle.form.proofs.Heads.{riff-head, form-own}
 use Rattle.form.proofs.Sizes.{own-true, ds64-first, riff-own}
@@ -75,7 +75,7 @@ pub record Take (s : List ℕ) (h : Head) (j : Entry) (rest : List Entry) : Type
   pub riff : h .form ≡ Riff
   pub listed : Listed s (record { head = h; rows = j ∷ rest })
   pub junk : j .name ≡ JUNK
-  pub holds : 28 ≤ j .size
+  pub holds : LEAST ≤ j .size
 
 module _ (s : List ℕ) (h : Head) (j : Entry) (rest : List Entry) (k : Take s h j rest) where
   pub junk-row : Row (trueSize h (entriesOf h s)) s 12 j
@@ -114,15 +114,15 @@ module _ (s : List ℕ) (h : Head) (j : Entry) (rest : List Entry) (k : Take s h
   pub own-size : (e : Entry) → List·Memᴰ e rest → (number 4 (e .place - 4) s ≡ ONES → ⊥) × (e .size ≡ number 4 (e .place - 4) s)
   own-size e m =
       let l = laid-lies rest-laid m .sized in
-      let n = riff-own h (entriesOf h s) (e .place - 8) (e .name) (number 4 (e .place - 4) s) (e .size) l (k .riff) in
-      (n, own-true h (entriesOf h s) (e .place - 8) (e .name) (number 4 (e .place - 4) s) (e .size) l n)
+      let n = riff-own h (entriesOf h s) (e .place - 8) (e .name) (number 4 (e .place - 4) s) _ l (k .riff) in
+      (n, own-true h (entriesOf h s) (e .place - 8) (e .name) (number 4 (e .place - 4) s) _ l n)
 
   pub not-ds64 : (e : Entry) → List·Memᴰ e rest → e .name ≡ DS64 → ⊥
   not-ds64 e m p =
       omega (
         arith,
         far e m,
-        ds64-first h (entriesOf h s) (e .place - 8) (e .name) (number 4 (e .place - 4) s) (e .size) (laid-lies rest-laid m .sized) p .1,
+        ds64-first h (entriesOf h s) (e .place - 8) (e .name) (number 4 (e .place - 4) s) _ (laid-lies rest-laid m .sized) p .1,
       )
 
   -- fact and data are apart

@@ -20,7 +20,7 @@ use Rattle.chunk.specs.Fields.{ONES}
 use Rattle.chunk.specs.Refusals.{given}
 use Rattle.chunk.specs.Tables.{count, find}
 use Rattle.chunk.specs.Walks.{Rule, past}
-use Rattle.chunk.proofs.Laid.{Row, Laid, next, laid-lies, Shown, relaid}
+use Rattle.chunk.proofs.Laid.{row-size, Row, Laid, next, laid-lies, Shown, relaid}
 use Rattle.chunk.proofs.Finds.{only}
 use Rattle.form.specs.declared.Form.{Form}
 use Rattle.form.specs.declared.Head.{Head}
@@ -84,20 +84,20 @@ module _ (t : Target) (s : List ℕ) (h : Head) (j : Entry) (rest : List Entry) 
             let p = past-junk s h j rest k DATA (λ r. omega arith) in
             only DATA rest e (omega (arith, p .0, k .listed .chunked .oneData)) m q ∙ sym (p .1)
 
-        go : (b : Bool) → eqb (e .name) DATA ≡ b → rule (e .place - 8) (e .name) (number 4 (e .place - 4) u) ≡ given (e .size)
+        go : (b : Bool) → eqb (e .name) DATA ≡ b → rule (e .place - 8) (e .name) (number 4 (e .place - 4) u) ≡ given (row-size e)
         go true q =
             let name = eqb-true (e .name) DATA q in
             let own = ap (λ (x : Entry). number 4 (x .place - 4) u) (found name) ∙ stored .dataField in
             ap₂ (rule (e .place - 8)) name own
             ∙ true-data (headIn t u) (entriesOf (headIn t u) u) (e .place - 8) (target-wide t)
-            ∙ ap given (stored .dataSize ∙ sym (ap (λ (x : Entry). x .size) (found name)))
+            ∙ ap (λ (n : ℕ). given (record { bytes = n })) (stored .dataSize ∙ sym (ap (λ (x : Entry). x .size) (found name)))
         go false q =
             let own = number-beside t old s 4 (e .place - 4) (own-beside s h j rest k t f e m (eqb-false (e .name) DATA q)) in
             let size = own-size s h j rest k e m in
             ap (rule (e .place - 8) (e .name)) own
             ∙ true-own (headIn t u) (entriesOf (headIn t u) u) (e .place - 8) (e .name) (number 4 (e .place - 4) s)
             (not-ds64 s h j rest k e m) (size .0)
-            ∙ ap given (sym (size .1))
+            ∙ ap (λ (n : ℕ). given (record { bytes = n })) (sym (size .1))
 
     junk-own : number 4 16 u ≡ number 4 16 s
     junk-own = number-beside t old s 4 16 (low-beside s h j rest k t f 4 16 (lit≤ tt) (lit≤ tt) (inr (lit≤ tt)))
@@ -106,8 +106,8 @@ module _ (t : Target) (s : List ℕ) (h : Head) (j : Entry) (rest : List Entry) 
     junk-size : (number 4 16 s ≡ ONES → ⊥) × (j .size ≡ number 4 16 s)
     junk-size =
         let r = junk-row s h j rest k .sized in
-        let n = riff-own h (entriesOf h s) 12 (j .name) (number 4 16 s) (j .size) r (k .riff) in
-        (n, own-true h (entriesOf h s) 12 (j .name) (number 4 16 s) (j .size) r n)
+        let n = riff-own h (entriesOf h s) 12 (j .name) (number 4 16 s) _ r (k .riff) in
+        (n, own-true h (entriesOf h s) 12 (j .name) (number 4 16 s) _ r n)
 
     first-row : Row rule u 12 (ds64Row j)
     unfolding past
@@ -118,7 +118,7 @@ module _ (t : Target) (s : List ℕ) (h : Head) (j : Entry) (rest : List Entry) 
           named = stored .name;
           sized = ap (rule 12 DS64) junk-own
               ∙ true-ds64 (headIn t u) (entriesOf (headIn t u) u) (number 4 16 s) (target-wide t) (junk-size .0)
-              ∙ ap given (sym (junk-size .1));
+              ∙ ap (λ (n : ℕ). given (record { bytes = n })) (sym (junk-size .1));
           ends = rw long (r .ends);
         }
 

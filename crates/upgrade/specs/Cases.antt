@@ -2,13 +2,12 @@
 -- what the document says. proofs/Cases.antt computes that the two agree.
 use mathlib.Core.Path.{_≡_}
 use Prim.Native.Nat.{ℕ}
-use mathlib.Core.List.{List, [], _∷_, _++_, map}
-use lib.ListN.{length, take, set, replicate}
+use mathlib.Core.List.{List, [], _∷_, _++_}
+use lib.ListN.{take, set, replicate}
 use lib.Seq.{sets}
 use Rattle.le.specs.Number.{number}
 use Rattle.chunk.specs.declared.Entry.{Entry}
-use Rattle.chunk.specs.declared.Refusal.{Refusal}
-use Rattle.chunk.specs.Refusals.{Answer, refused, given, numberOf, verdictNumber}
+use Rattle.chunk.specs.Refusals.{Answer, refused, given, refusalNumber, verdictNumber}
 use Rattle.chunk.specs.Names.{JUNK, FMT, DATA, DS64}
 use Rattle.chunk.specs.Walks.{Walked}
 use Rattle.wave.specs.Scans.{Scan, scan, walk32}
@@ -30,7 +29,7 @@ cells [] = []
 cells (e ∷ es) = e .name ∷ e .place ∷ e .size ∷ cells es
 
 unfoldable pub scanned : Answer Scan → List ℕ
-scanned (refused r) = numberOf r ∷ []
+scanned (refused r) = refusalNumber r ∷ []
 scanned (given a) = 0 ∷ cells (a .rows)
 
 unfoldable pub walked : Walked → List ℕ
@@ -38,7 +37,7 @@ walked w = verdictNumber (w .end) ∷ cells (w .rows)
 
 -- the upgraded file handed on, or the upgrade's refusal
 unfoldable pub onto : Answer (List ℕ) → (List ℕ → List ℕ) → List ℕ
-onto (refused r) f = numberOf r ∷ []
+onto (refused r) f = refusalNumber r ∷ []
 onto (given t) f = f t
 
 unfoldable pub fine : List ℕ → List ℕ

@@ -1,5 +1,6 @@
 -- The customer's demand 3: its second half, and both halves as one statement, which proofs/Demand3.antt proves. The first
--- half stands in the wave crate.
+-- half stands in the wave crate. In quotation marks stand words of the demand, and of document 01 where the upgrade's stores
+-- are told.
 use Prim.Native.Nat.{ℕ, _+_, _-_, _≤_}
 use mathlib.Core.Path.{_≡_}
 use mathlib.Core.Logic.{_↔_, _⊎_}
@@ -18,6 +19,7 @@ use Rattle.chunk.specs.Fields.{ONES}
 use Rattle.chunk.specs.Tables.{find}
 use Rattle.form.specs.declared.Form as form
 use Rattle.form.specs.declared.Form.the-variants as form-variants
+use Rattle.form.specs.Forms.{LEAST}
 use Rattle.wave.specs.Scans.{Scan, scan, payload, samplesOf, walk32}
 use Rattle.wave.specs.Demand3.{FirstHalf}
 use Rattle.upgrade.specs.declared.Target.{Target}
@@ -27,7 +29,7 @@ use Rattle.upgrade.specs.Upgrades.{hasFact, thirdFor, targetName, patche
 -- "the first chunk is JUNK of at least 28 bytes"
 unfoldable pub Reserved : List Entry → Type 0
 Reserved [] = ⊥
-Reserved (e ∷ es) = (e .name ≡ JUNK) × (28 ≤ e .size)
+Reserved (e ∷ es) = (e .name ≡ JUNK) × (LEAST ≤ e .size)
 
 -- "the same names, places and sizes in the same order, except that the first name is now ds64"
 unfoldable pub renamed : List Entry → List Entry
@@ -66,7 +68,7 @@ changed t a =
     span 0 4
     ∷ span 4 4
     ∷ span 12 4
-    ∷ span 20 28
+    ∷ span 20 LEAST
     ∷ span (find DATA (a .rows) .place - 4) 4
     ∷ factSpan t a
 

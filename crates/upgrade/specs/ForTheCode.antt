@@ -1,4 +1,4 @@
--- Demand 3 for the code: what wave::scan, wave::walk32 and upgrade::upgrade answer, by their contracts and the theorems over
+-- The customer's demand 3 for the code: what wave::scan, wave::walk32 and upgrade::upgrade answer, by their contracts and the theorems over
 -- the definitions together. `scanTable s` is what wave::scan returns of the bytes s, `walkTable s` what wave::walk32 returns,
 -- and `UpgradeDone t s r u` what upgrade::upgrade returns, r, and leaves, u.
 use mathlib.Core.Path.{_≡_}
@@ -36,7 +36,11 @@ pub record Upgrading (t : Target) (s : List ℕ) (a : Scan) (r : Verdict) (u : L
   -- all that demand 3 says of the file after a success
   pub after : r ≡ Accepted → Upgraded t s a u
 
+-- What upgrade::upgrade promises of every file that is lent to it: no premise is left but that the scan accepts it as RIFF.
+abbrev pub KeepsDemand3 : Target → List ℕ → Verdict → List ℕ → Type 0
+KeepsDemand3 t s r u = (a : Scan) → scan s ≡ given a → a .head .form ≡ Riff → Upgrading t s a r u
+
 pub record Demand3ForTheCode : Type 0 where
   pub walks : (s : List ℕ) → scanTable s .verdict ≡ Accepted → Walks s
-  pub upgrades : (t : Target) (s : List ℕ) (a : Scan) (r : Verdict) (u : List ℕ) → Bytes s → scan s ≡ given a
-      → a .head .form ≡ Riff → UpgradeDone t s r u → Upgrading t s a r u
+  -- a lent run holds bytes, so the upgrade's contract has this without the premise
+  pub upgrades : (t : Target) (s : List ℕ) (r : Verdict) (u : List ℕ) → Bytes s → UpgradeDone t s r u → KeepsDemand3 t s r u

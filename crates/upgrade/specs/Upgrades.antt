@@ -1,17 +1,17 @@
 -- Document 01, "Writing and upgrading": the upgrade as a list of 32-bit stores.
 use Prim.Native.Nat.{ℕ, _+_, _-_, _/_}
-use mathlib.Core.Bool.{Bool, not, _&&_}
+use mathlib.Core.Bool.{Bool, false, not, _&&_}
 use mathlib.Core.List.{List, [], _∷_, _++_}
 use lib.Dec.{eqb, leb}
 use Rattle.le.specs.Number.{number, stored}
 use Rattle.le.specs.Choice.{pick}
 use Rattle.chunk.specs.declared.Entry.{Entry}
 use Rattle.chunk.specs.declared.Refusal.the-variants.{Already64, NoReserve}
-use Rattle.chunk.specs.Refusals.{Answer, refused, given, check, andThen}
+use Rattle.chunk.specs.Refusals.{Answer, given, check, andThen}
 use Rattle.chunk.specs.Names.{RF64, BW64, DS64, JUNK, FACT, DATA}
 use Rattle.chunk.specs.Fields.{ONES}
 use Rattle.chunk.specs.Tables.{count, find}
-use Rattle.form.specs.Forms.{isWide, formSize}
+use Rattle.form.specs.Forms.{isWide, formSize, LEAST}
 use Rattle.wave.specs.Scans.{Scan, scan}
 use Rattle.upgrade.specs.declared.Target.{Target}
 use Rattle.upgrade.specs.declared.Target.the-variants.{Rf64, Bw64}
@@ -67,10 +67,10 @@ unfoldable pub patched : List Patch → List ℕ → List ℕ
 patched [] s = s
 patched (p ∷ ps) s = patched ps (stored 4 (p .place) (p .value) s)
 
--- "first chunk is JUNK of 28 or more"
+-- 19: "first chunk isn't JUNK of 28 or more"
 unfoldable pub reserved : List Entry → Bool
-reserved [] = leb 1 0
-reserved (e ∷ es) = eqb (e .name) JUNK && leb 28 (e .size)
+reserved [] = false
+reserved (e ∷ es) = eqb (e .name) JUNK && leb LEAST (e .size)
 
 -- "The upgrade: the scan's own refusal, 18, 19"; else the file upgraded
 unfoldable pub upgraded : Target → List ℕ → Answer (List ℕ)

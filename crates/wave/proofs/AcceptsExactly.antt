@@ -24,8 +24,8 @@ use Rattle.form.specs.declared.Form.{Form}
 use Rattle.form.specs.declared.Form.the-variants.{Riff, Rf64, Bw64}
 use Rattle.form.specs.declared.Ds64.{Ds64}
 use Rattle.form.specs.declared.Head.{Head}
-use Rattle.form.specs.Forms.{isWide, ds64At, noDs64, headAs, formSize}
-use Rattle.form.specs.Sizes.{Known, entriesIn, entriesOf, trueSize}
+use Rattle.form.specs.Forms.{isWide, ds64At, noDs64, headAs, formSize, LEAST}
+use Rattle.form.specs.Sizes.{Ds64Entry, entriesIn, entriesOf, trueSize}
 use Rattle.form.proofs.Heads.{Opened, Ds64Rules, ds64-rules, riff-head, wide-head, form-own, form-ones}
 use Rattle.form.proofs.Sizes.{own-true, ds64-first}
 use Rattle.fmt.specs.declared.Format.{Format}
@@ -108,7 +108,7 @@ module _ (s : List ℕ) (b : Bytes s) (a : Scan) (t : Scanned s a) where
   abbrev form : Form
   form = a .head .form
 
-  abbrev ks : List Known
+  abbrev ks : List Ds64Entry
   ks = entriesOf (a .head) s
 
   abbrev rule : Rule
@@ -176,7 +176,7 @@ module _ (s : List ℕ) (b : Bytes s) (a : Scan) (t : Scanned s a) where
   ds64-row : (e : Entry) → List·Memᴰ e (a .rows) → e .name ≡ DS64 → (isWide form ≡ true) × (e .place ≡ 20)
   ds64-row e m p =
       let r = laid-lies laid m in
-      let c = ds64-first (a .head) ks (e .place - 8) (e .name) (ownField s e) (e .size) (unfold ownField in r .sized) p in
+      let c = ds64-first (a .head) ks (e .place - 8) (e .name) (ownField s e) (record { bytes = e .size }) (unfold ownField in r .sized) p in
       (c .0, omega (arith, c .1, r .after))
 
   ds64-is : isWide form ≡ true → Ds64First (a .head .ds64) ks cs
@@ -185,15 +185,15 @@ module _ (s : List ℕ) (b : Bytes s) (a : Scan) (t : Scanned s a) where
       let h = wide-head form s (a .head) w (o .head) in
       let r = ds64-rules (length s) (number 4 12 s) (number 4 16 s) (number 4 44 s) (h .0) in
       let f = laid-first (a .rows) laid (omega (arith, r .ends)) in
-      subst (λ (d : Ds64). Ds64First d (entriesIn (d .count) (drop 48 s)) cs) (sym (ap (λ (x : Head). x .ds64) (h .1)))
+      subst (λ (d : Ds64). Ds64First d (entriesIn (d .count) (drop (20 + LEAST) s)) cs) (sym (ap (λ (x : Head). x .ds64) (h .1)))
       (gather r (f .0) (f .1) (f .2) (f .3) (f .4))
     where
       gather : Ds64Rules (length s) (number 4 12 s) (number 4 16 s) (number 4 44 s) → (e : Entry) (es : List Entry)
           → a .rows ≡ e ∷ es → Row rule s 12 e → Laid rule s (past e) es
-          → Ds64First (ds64At s) (entriesIn (number 4 44 s) (drop 48 s)) cs
+          → Ds64First (ds64At s) (entriesIn (number 4 44 s) (drop (20 + LEAST) s)) cs
       gather r e es is row l =
           let size : e .size ≡ number 4 16 s =
-          own-true (a .head) ks 12 (e .name) (number 4 16 s) (e .size) (row .sized) (r .sized) in
+          own-true (a .head) ks 12 (e .name) (number 4 16 s) _ (row .sized) (r .sized) in
           let p = ds64-bytes (e .size) s b (omega (arith, size, r .holds)) (omega (arith, size, r .ends)) in
           record {
             first = cut s e;
@@ -208,10 +208,10 @@ module _ (s : List ℕ) (b : Bytes s) (a : Scan) (t : Scanned s a) where
             sized = λ k. r .sized (ap (λ (j : ℕ). number 4 (j - 4) s) (sym (row .place)) ∙ k);
             more = p .0;
             payload = ap (λ (j : ℕ). field (e .size) j s) (row .place) ∙ p .1;
-            counts = sym (entries-count (number 4 44 s) (drop 48 s));
+            counts = sym (entries-count (number 4 44 s) (drop (20 + LEAST) s));
             few = r .few;
             fits = (number-bound 8 20 s b, number-bound 8 28 s b, number-bound 8 36 s b);
-            entriesFit = entries-fit (number 4 44 s) (drop 48 s) (Bytes-drop 48 s b);
+            entriesFit = entries-fit (number 4 44 s) (drop (20 + LEAST) s) (Bytes-drop (20 + LEAST) s b);
           }
 
   riff-none : isWide form ≡ false → (a .head .ds64 ≡ noDs64) × (ks ≡ []) × Without DS64 cs
@@ -219,7 +219,7 @@ module _ (s : List ℕ) (b : Bytes s) (a : Scan) (t : Scanned s a) where
   riff-none v =
       let h = riff-is v .1 in (
         ap (λ (x : Head). x .ds64) h,
-        ap (λ (x : Head). entriesIn (x .ds64 .count) (drop 48 s)) h,
+        ap (λ (x : Head). entriesIn (x .ds64 .count) (drop (20 + LEAST) s)) h,
         of-rows (λ (c : Chunk). c .name ≡ DS64 → ⊥) (λ e m p. true-false (isWide form) (ds64-row e m p .0) v),
       )
 

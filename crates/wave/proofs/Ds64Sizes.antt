@@ -15,6 +15,7 @@ use borrow.Author.Tests.{eq-eqb, ne-eqb, eqb-true, eqb-false}
 use Rattle.le.specs.Number.{Bytes, bytes, field, number}
 use Rattle.le.proofs.Laws.{bytes-length, number-at, drop-past, number-then, number-bound, Bytes-drop}
 use Rattle.chunk.specs.declared.Refusal.{Refusal}
+use Rattle.chunk.specs.declared.TrueSize.{TrueSize}
 use Rattle.chunk.specs.declared.Refusal.the-variants.{BadDs64, UnknownSize}
 use Rattle.chunk.specs.Refusals.{Answer, refused, given}
 use Rattle.chunk.specs.Names.{DATA}
@@ -25,36 +26,36 @@ use Rattle.form.specs.declared.Form.the-variants.{Riff, Rf64, Bw64}
 use Rattle.form.specs.declared.Ds64.{Ds64}
 use Rattle.form.specs.declared.Head.{Head}
 use Rattle.form.specs.Forms.{isWide, ds64At}
-use Rattle.form.specs.Sizes.{Known, entriesIn, entrySize, knownSize, onesSize, strayDs64, trueSize}
-use Rattle.form.proofs.Known.{true-stray, true-field, true-ones}
+use Rattle.form.specs.Sizes.{Ds64Entry, entriesIn, entrySize, knownSize, onesSize, strayDs64, trueSize}
+use Rattle.form.proofs.Ds64Entries.{true-stray, true-field, true-ones}
 use Rattle.form.proofs.Sizes.{own-true}
 use Rattle.wave.specs.Grammar.{Chunk, GoodChunk, FirstEntry, entriesBytes, ds64Bytes}
 
 -- ---- the rule's answer where it knows a size
 
-abbrev pub known : ℕ → Answer ℕ
-known n = given n
+abbrev pub known : ℕ → Answer TrueSize
+known n = given (record { bytes = n })
 
 known-inj : (m n : ℕ) → known m ≡ known n → m ≡ n
-known-inj m n e = given-inj m n e
+known-inj m n e = ap (λ (x : TrueSize). x .bytes) (given-inj _ _ e)
 
 refused-known : (r : Refusal) (n : ℕ) → refused r ≡ known n → ⊥
-refused-known r n e = refused-given r n e
+refused-known r n e = refused-given r _ e
 
 -- ---- "the first entry of that name"
 
-first-given : (name size : ℕ) (ks : List Known) → FirstEntry name size ks → entrySize name ks ≡ known size
+first-given : (name size : ℕ) (ks : List Ds64Entry) → FirstEntry name size ks → entrySize name ks ≡ known size
 unfolding entrySize
 first-given name size ks f = ap (entrySize name) (f .is) ∙ go (f .before) (f .none)
   where
-    go : (xs : List Known) → ((k : Known) → List·Memᴰ k xs → k .name ≡ name → ⊥)
+    go : (xs : List Ds64Entry) → ((k : Ds64Entry) → List·Memᴰ k xs → k .name ≡ name → ⊥)
         → entrySize name (xs ++ record { name = name; size = size } ∷ f .after) ≡ known size
     go [] n = pick-true (eqb name name) _ _ (eq-eqb name name refl)
     go (x ∷ xs) n =
         pick-false (eqb (x .name) name) _ _ (ne-eqb (x .name) name (n x (List·Memᴰ·head refl)))
         ∙ go xs (λ k m. n k (List·Memᴰ·tail m))
 
-given-first : (name size : ℕ) (ks : List Known) → entrySize name ks ≡ known size → FirstEntry name size ks
+given-first : (name size : ℕ) (ks : List Ds64Entry) → entrySize name ks ≡ known size → FirstEntry name size ks
 unfolding entrySize
 given-first name size [] e = absurd (refused-known UnknownSize size e)
 given-first name size (k ∷ ks) e = go (given-first name size ks) (eqb (k .name) name) refl
@@ -70,18 +71,18 @@ given-first name size (k ∷ ks) e = go (given-first name size ks) (eqb (k .name
         record {
           before = k ∷ f .before;
           after = f .after;
-          is = ap (λ (l : List Known). k ∷ l) (f .is);
+          is = ap (λ (l : List Ds64Entry). k ∷ l) (f .is);
           none = λ x m q. miss f x q (List·Memᴰ·cases-cons m);
         }
       where
-        miss : (f : FirstEntry name size ks) (x : Known) → x .name ≡ name → (x ≡ k) ⊎ List·Memᴰ x (f .before) → ⊥
-        miss f x q (inl p) = eqb-false (k .name) name h (sym (ap (λ (y : Known). y .name) p) ∙ q)
+        miss : (f : FirstEntry name size ks) (x : Ds64Entry) → x .name ≡ name → (x ≡ k) ⊎ List·Memᴰ x (f .before) → ⊥
+        miss f x q (inl p) = eqb-false (k .name) name h (sym (ap (λ (y : Ds64Entry). y .name) p) ∙ q)
         miss f x q (inr m) = f .none x m q
 
 -- ---- a chunk's size
 
 -- what the scan's rule knows of a good chunk
-pub good-size : (h : Head) (ks : List Known) (at : ℕ) (c : Chunk) → strayDs64 (h .form) at (c .name) ≡ false
+pub good-size : (h : Head) (ks : List Ds64Entry) (at : ℕ) (c : Chunk) → strayDs64 (h .form) at (c .name) ≡ false
     → GoodChunk (h .form) (h .ds64) ks c → trueSize h ks at (c .name) (c .field) ≡ known (length (c .payload))
 unfolding knownSize onesSize isWide
 good-size h ks at c p g = go (eqb (c .field) ONES) refl
@@ -106,18 +107,18 @@ good-size h ks at c p g = go (eqb (c .field) ONES) refl
         true-field h ks at (c .name) (c .field) p o ∙ ap known (g .own o)
 
 -- what a known size tells
-pub record Told (form : Form) (d : Ds64) (ks : List Known) (name own n : ℕ) : Type 0 where
+pub record Told (form : Form) (d : Ds64) (ks : List Ds64Entry) (name own n : ℕ) : Type 0 where
   pub plain : (own ≡ ONES → ⊥) → own ≡ n
   pub wide : own ≡ ONES → isWide form ≡ true
   pub audio : own ≡ ONES → name ≡ DATA → n ≡ d .«data_size»
   pub other : own ≡ ONES → (name ≡ DATA → ⊥) → FirstEntry name n ks
 
-pub size-told : (h : Head) (ks : List Known) (at name own n : ℕ) → trueSize h ks at name own ≡ known n
+pub size-told : (h : Head) (ks : List Ds64Entry) (at name own n : ℕ) → trueSize h ks at name own ≡ known n
     → Told (h .form) (h .ds64) ks name own n
 unfolding knownSize onesSize isWide
 size-told h ks at name own n e =
     record {
-      plain = λ k. sym (own-true h ks at name own n e k);
+      plain = λ k. sym (own-true h ks at name own _ e k);
       wide = λ o. of-ds64 o .0;
       audio = λ o p. sym (known-inj _ _ (sym (pick-true (eqb name DATA) _ _ (eq-eqb name DATA p)) ∙ of-ds64 o .1));
       other = λ o p. given-first name n ks (sym (pick-false (eqb name DATA) _ _ (ne-eqb name DATA p)) ∙ of-ds64 o .1);
@@ -137,10 +138,10 @@ size-told h ks at name own n e =
 
 -- ---- entries as bytes
 
-abbrev pub Fit : List Known → Type 0
-Fit ks = (k : Known) → List·Memᴰ k ks → (k .name < 256 ^ 4) × (k .size < 256 ^ 8)
+abbrev pub Fit : List Ds64Entry → Type 0
+Fit ks = (k : Ds64Entry) → List·Memᴰ k ks → (k .name < 256 ^ 4) × (k .size < 256 ^ 8)
 
-entries-length : (ks : List Known) → length (entriesBytes ks) ≡ 12 * length ks
+entries-length : (ks : List Ds64Entry) → length (entriesBytes ks) ≡ 12 * length ks
 unfolding entriesBytes
 entries-length [] = refl
 entries-length (k ∷ ks) =
@@ -153,7 +154,7 @@ entries-length (k ∷ ks) =
       entries-length ks,
     )
 
-pub ds64-length : (d : Ds64) (ks : List Known) → length (ds64Bytes d ks) ≡ 28 + 12 * length ks
+pub ds64-length : (d : Ds64) (ks : List Ds64Entry) → length (ds64Bytes d ks) ≡ 28 + 12 * length ks
 unfolding ds64Bytes
 ds64-length d ks =
     let es : List ℕ = entriesBytes ks in
@@ -171,7 +172,7 @@ ds64-length d ks =
     )
 
 -- the entries read are the entries written
-entries-read : (ks : List Known) (more : List ℕ) → Fit ks → entriesIn (length ks) (entriesBytes ks ++ more) ≡ ks
+entries-read : (ks : List Ds64Entry) (more : List ℕ) → Fit ks → entriesIn (length ks) (entriesBytes ks ++ more) ≡ ks
 unfolding entriesIn entriesBytes
 entries-read [] more f = refl
 entries-read (k ∷ ks) more f =
@@ -181,12 +182,12 @@ entries-read (k ∷ ks) more f =
     let e₀ : drop 0 s ≡ bytes 4 (k .name) ++ (bytes 8 (k .size) ++ rest) = simp append-assoc in
     let e₄ : drop 4 s ≡ bytes 8 (k .size) ++ rest = drop-past 4 0 s (bytes 4 (k .name)) _ (bytes-length 4 (k .name)) e₀ in
     let e₁₂ : drop 12 s ≡ rest = drop-past 8 4 s (bytes 8 (k .size)) rest (bytes-length 8 (k .size)) e₄ in
-    ap₂ (λ (x : Known) (xs : List Known). x ∷ xs)
+    ap₂ (λ (x : Ds64Entry) (xs : List Ds64Entry). x ∷ xs)
     (λ i. record { name = number-at 4 0 (k .name) s _ (b .0) e₀ i; size = number-at 8 4 (k .size) s rest (b .1) e₄ i })
     (ap (entriesIn (length ks)) e₁₂ ∙ entries-read ks more (λ x m. f x (List·Memᴰ·tail m)))
 
 -- so the numbers and entries read at byte 20 are those written there
-pub ds64-read : (s : List ℕ) (d : Ds64) (ks : List Known) (more : List ℕ)
+pub ds64-read : (s : List ℕ) (d : Ds64) (ks : List Ds64Entry) (more : List ℕ)
     → (d .«form_size» < 256 ^ 8) × (d .«data_size» < 256 ^ 8) × (d .third < 256 ^ 8) → d .count < 256 ^ 4 → Fit ks
     → drop 20 s ≡ ds64Bytes d ks ++ more → (ds64At s ≡ d) × (entriesIn (length ks) (drop 48 s) ≡ ks)
 unfolding ds64Bytes ds64At
@@ -217,13 +218,13 @@ unfolding entriesIn
 entries-fit zero s b k m = absurd (List·Memᴰ·not-nil m)
 entries-fit (suc n) s b k m = go (entries-fit n (drop 12 s) (Bytes-drop 12 s b) k) (List·Memᴰ·cases-cons m)
   where
-    first : Known
+    first : Ds64Entry
     first = record { name = number 4 0 s; size = number 8 4 s }
 
     go : (List·Memᴰ k (entriesIn n (drop 12 s)) → (k .name < 256 ^ 4) × (k .size < 256 ^ 8))
         → (k ≡ first) ⊎ List·Memᴰ k (entriesIn n (drop 12 s)) → (k .name < 256 ^ 4) × (k .size < 256 ^ 8)
     go below (inl p) =
-        subst (λ (x : Known). (x .name < 256 ^ 4) × (x .size < 256 ^ 8)) (sym p) (number-bound 4 0 s b, number-bound 8 4 s b)
+        subst (λ (x : Ds64Entry). (x .name < 256 ^ 4) × (x .size < 256 ^ 8)) (sym p) (number-bound 4 0 s b, number-bound 8 4 s b)
     go below (inr j) = below j
 
 -- the bytes of the entries read are the bytes that were there
@@ -231,7 +232,7 @@ entries-bytes : (n : ℕ) (s : List ℕ) → Bytes s → 12 * n ≤ length s →
 unfolding entriesIn entriesBytes
 entries-bytes zero s b h = refl
 entries-bytes (suc n) s b h =
-    let es : List Known = entriesIn n (drop 12 s) in
+    let es : List Ds64Entry = entriesIn n (drop 12 s) in
     let twelve : 12 + 12 * n ≡ 12 * suc n = omega arith in
     number-then 4 0 s b (omega arith)
     ∙ ap (λ (l : List ℕ). bytes 4 (number 4 0 s) ++ l)

@@ -12,6 +12,7 @@ use lib.Dec.{eqb}
 use borrow.Author.Tests.{eq-eqb, ne-eqb, eqb-true, eqb-false}
 use Rattle.le.specs.Number.{number}
 use Rattle.chunk.specs.declared.Entry.{Entry}
+use Rattle.chunk.specs.declared.TrueSize.{TrueSize}
 use Rattle.chunk.specs.declared.Refusal.the-variants.{UnknownSize}
 use Rattle.chunk.specs.declared.Verdict.the-variants.{Accepted, Refused}
 use Rattle.chunk.specs.Refusals.{Answer, given}
@@ -22,6 +23,7 @@ use Rattle.chunk.proofs.Laid.{Row, Laid, done, next, row-fits, step-end, step-r
 use Rattle.form.specs.Sizes.{trueSize, entriesOf}
 use Rattle.form.proofs.Heads.{opened-32}
 use Rattle.form.proofs.Sizes.{own-true}
+use Rattle.chunk.specs.Tables.{LIMIT}
 use Rattle.wave.specs.Scans.{Scan, scan, walkFrom, walk32}
 use Rattle.wave.specs.Tables.{ownField}
 use Rattle.wave.specs.Demand3.{ahead, stop, Sized, FirstHalf}
@@ -55,7 +57,7 @@ shown-sized s e es h =
 
 -- a rule by which a field that is not all ones is the size
 Plain : Rule → Type 0
-Plain rule = (at name own n : ℕ) → rule at name own ≡ given n → (own ≡ ONES → ⊥) → n ≡ own
+Plain rule = (at name own : ℕ) (t : TrueSize) → rule at name own ≡ given t → (own ≡ ONES → ⊥) → t .bytes ≡ own
 
 own-at : {rule : Rule} {s : List ℕ} {at : ℕ} {e : Entry} → Row rule s at e → ownField s e ≡ number 4 (at + 4) s
 unfolding ownField
@@ -78,7 +80,7 @@ row-own rule plain s at e r h =
     record {
       place = r .place;
       named = r .named;
-      sized = own-given at (e .name) own k ∙ ap given (sym (plain at (e .name) own (e .size) (r .sized) k));
+      sized = own-given at (e .name) own k ∙ ap (λ (n : ℕ). given (record { bytes = n })) (sym (plain at (e .name) own _ (r .sized) k));
       ends = r .ends;
     }
 
@@ -119,14 +121,14 @@ shown-whole s (x ∷ xs) h =
 
 true-plain : (s : List ℕ) (a : Scan) → Plain (trueSize (a .head) (entriesOf (a .head) s))
 unfolding Plain
-true-plain s a at name own n e = own-true (a .head) (entriesOf (a .head) s) at name own n e
+true-plain s a at name own t e = own-true (a .head) (entriesOf (a .head) s) at name own t e
 
 scan-walk : (s : List ℕ) (a : Scan) → scan s ≡ given a → walk32 s ≡ shown s (a .rows)
 unfolding walk32 walkFrom
 scan-walk s a e =
     let l = scan-scanned s a e .listed in
     ap (λ (x : Answer ℕ). walkFrom x s) (opened-32 s (a .head) (l .opened))
-    ∙ laid-own (trueSize (a .head) (entriesOf (a .head) s)) (true-plain s a) 64 (l .laid) (l .few)
+    ∙ laid-own (trueSize (a .head) (entriesOf (a .head) s)) (true-plain s a) LIMIT (l .laid) (l .few)
 
 -- Demand 3, first half.
 pub first-half : (s : List ℕ) (a : Scan) → scan s ≡ given a → FirstHalf s a

@@ -25,8 +25,8 @@ use Rattle.chunk.proofs.Laid.{Laid, done, next}
 use Rattle.form.specs.declared.Form.{Form}
 use Rattle.form.specs.declared.Form.the-variants.{Riff, Rf64, Bw64}
 use Rattle.form.specs.declared.Ds64.{Ds64}
-use Rattle.form.specs.Forms.{nameOf, isWide, ds64Good, ds64At, noDs64, headAs, formSize}
-use Rattle.form.specs.Sizes.{Known, entriesIn, entriesOf, strayDs64, trueSize}
+use Rattle.form.specs.Forms.{nameOf, isWide, ds64Good, ds64At, noDs64, headAs, wideAs, formSize}
+use Rattle.form.specs.Sizes.{Ds64Entry, entriesIn, entriesOf, strayDs64, trueSize}
 use Rattle.form.proofs.Heads.{Opened, rules-ds64, head-wide, form-own, form-ones}
 use Rattle.form.proofs.Sizes.{other-placed, first-placed}
 use Rattle.fmt.specs.declared.Format.{Format}
@@ -251,7 +251,7 @@ module _ (s : List ℕ) (a : Scan) (g : GoodFile s a) where
   -- ---- checks 1 to 5
 
   head-is : headAs form s ≡ given (a .head)
-  unfolding headAs isWide
+  unfolding headAs wideAs isWide
   head-is = go form refl
     where
       wide : (x : Form) → form ≡ x → isWide x ≡ true → headAs x s ≡ given (a .head)
@@ -306,7 +306,7 @@ module _ (s : List ℕ) (a : Scan) (g : GoodFile s a) where
   size-known : (p : ℕ) (c : Chunk) → List·Memᴰ c (g .chunks) → strayDs64 form p (c .name) ≡ false
       → rule p (c .name) (c .field) ≡ known (length (c .payload))
   size-known p c m h =
-      ap (λ (ks : List Known). trueSize (a .head) ks p (c .name) (c .field)) entries-are
+      ap (λ (ks : List Ds64Entry). trueSize (a .head) ks p (c .name) (c .field)) entries-are
       ∙ good-size (a .head) (g .entries) p c h (g .good c m)
 
   laid : Laid rule s 12 (a .rows)

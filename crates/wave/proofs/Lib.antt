@@ -4,9 +4,9 @@ pub mod Ds64Sizes
 pub mod Ends
 pub mod FirstHalf
 pub mod GoodFiles
-pub mod Loops
-pub mod Notes
+pub mod Listings
+pub mod Passing
 pub mod Scanned
-pub mod Surveys
+pub mod Stored
 pub mod Tables
 pub mod Tallied

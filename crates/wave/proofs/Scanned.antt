@@ -13,7 +13,7 @@ use Rattle.chunk.specs.declared.Verdict.{Verdict}
 use Rattle.chunk.specs.declared.Verdict.the-variants.{Accepted, Refused}
 use Rattle.chunk.specs.Refusals.{given}
 use Rattle.chunk.specs.Names.{FMT, DATA, FACT, BEXT, CHNA}
-use Rattle.chunk.specs.Tables.{count, find}
+use Rattle.chunk.specs.Tables.{count, find, LIMIT}
 use Rattle.chunk.specs.Walks.{Walked}
 use Rattle.chunk.proofs.Checks.{given-inj, refused-given, check-given, check-true, andThen-given, andThen-at, rule-and, or-true, or-false}
 use Rattle.chunk.proofs.Laid.{Laid, walk-laid, laid-walk}
@@ -76,7 +76,7 @@ chunked-good rows c =
 pub record Listed (s : List ℕ) (l : Listing) : Type 0 where
   pub opened : Opened s (l .head)
   pub laid : Laid (trueSize (l .head) (entriesOf (l .head) s)) s 12 (l .rows)
-  pub few : length (l .rows) ≤ 64
+  pub few : length (l .rows) ≤ LIMIT
   pub chunked : Chunked (l .rows)
 
 ended : (v : Verdict) (rows shown : List Entry) → endedAs v shown ≡ given rows → (v ≡ Accepted) × (shown ≡ rows)
@@ -95,12 +95,12 @@ listing-listed s l e =
     gather : (h : Head) (rows : List Entry) → headOf s ≡ given h → (headers h s .end ≡ Accepted) × (headers h s .rows ≡ rows)
         → chunksGood rows ≡ true → record { head = h; rows = rows } ≡ l → Listed s l
     gather h rows head walks good is =
-        let w = walk-laid (trueSize h (entriesOf h s)) s 64 12 (walks .0) in
+        let w = walk-laid (trueSize h (entriesOf h s)) s LIMIT 12 (walks .0) in
         subst (Listed s) is
         (record {
           opened = head-opened s h head;
           laid = subst (Laid (trueSize h (entriesOf h s)) s 12) (walks .1) (w .laid);
-          few = subst (λ (r : List Entry). length r ≤ 64) (walks .1) (w .few);
+          few = subst (λ (r : List Entry). length r ≤ LIMIT) (walks .1) (w .few);
           chunked = good-chunked rows good;
         })
 
@@ -109,7 +109,7 @@ unfolding listing headers endedAs
 listed-listing s l h =
     andThen-at (headOf s) _ (l .head) (opened-head s (l .head) (h .opened))
     ∙ andThen-at (endedAs (headers (l .head) s .end) (headers (l .head) s .rows)) _ (l .rows)
-    (ap (λ (w : Walked). endedAs (w .end) (w .rows)) (laid-walk 64 (h .laid) (h .few)))
+    (ap (λ (w : Walked). endedAs (w .end) (w .rows)) (laid-walk LIMIT (h .laid) (h .few)))
     ∙ check-true (chunksGood (l .rows)) _ _ (chunked-good (l .rows) (h .chunked))
 
 -- ---- the scan

@@ -45,7 +45,7 @@ tables s a e =
       inside = λ x m. (laid-lies (l .laid) m .after, laid-lies (l .laid) m .ends);
       apart = λ xs x ys h. laid-later xs x ys (subst (Laid rule s 12) h (l .laid));
       own = λ x m.
-          own-true (a .head) ks (x .place - 8) (x .name) (ownField s x) (x .size) (laid-lies (l .laid) m .sized);
+          own-true (a .head) ks (x .place - 8) (x .name) (ownField s x) _ (laid-lies (l .laid) m .sized);
       oneFmt = l .chunked .oneFmt;
       oneData = l .chunked .oneData;
       fmtFirst = l .chunked .fmtFirst;
@@ -55,6 +55,6 @@ tables s a e =
           (f .0, f .1, f .2, sym (f .3 .named) ∙ r .named, f .3 .place);
       ds64 = λ x m h.
           let r = laid-lies (l .laid) m in
-          let c = ds64-first (a .head) ks (x .place - 8) (x .name) (ownField s x) (x .size) (r .sized) h in
+          let c = ds64-first (a .head) ks (x .place - 8) (x .name) (ownField s x) _ (r .sized) h in
           (c .0, omega (arith, c .1, r .after));
     }

@@ -1,243 +1,205 @@
--- A tally of the rows passed, chunk by chunk, is the tally of the rows; and check 10 of it is check 10 of the rows.
+-- What a tally of rows tells of the rows: each name's part of it is a fold of its own, so each law is proved once, over the
+-- name, by induction on the rows; then check 10 of the tally is check 10 of the rows.
 -- Assumes nothing.
-use mathlib.Core.Path.{_≡_, refl, sym, ap, ap₂, _∙_, subst}
+use mathlib.Core.Path.{_≡_, refl, sym, ap, ap₂, _∙_}
 use mathlib.Core.Bool.{Bool, true, false, _||_}
 use mathlib.Core.List.{List, [], _∷_}
-use Prim.Native.Nat.{ℕ, zero, suc, _≤_, _<_}
+use Prim.Native.Nat.{ℕ, zero, suc, _+_, _≤_}
 use native.Mathlib.Omega.{arith}
 use lib.Dec.{eqb, leb, ltb}
-use borrow.Author.Tests.{eq-eqb, ne-eqb, lt-leb, lt-ltb, le-ltb}
-use Rattle.le.specs.Choice.{pick, every}
+use borrow.Author.Tests.{eq-eqb, ne-eqb, eqb-true, lt-leb, le-leb, ltb-true, ltb-false}
+use Rattle.le.specs.Choice.{pick}
 use Rattle.chunk.specs.declared.Entry.{Entry}
-use Rattle.chunk.specs.Names.{FMT, DATA, FACT, BEXT, CHNA}
+use Rattle.chunk.specs.Names.{FMT, DATA, FACT, BEXT, CHNA, DS64}
 use Rattle.chunk.specs.Tables.{count, find}
-use Rattle.chunk.proofs.Checks.{pick-true, pick-false}
-use Rattle.wave.specs.declared.tally.Met.{Met}
-use Rattle.wave.specs.declared.tally.Met.the-variants.{Never, Once, More}
+use Rattle.chunk.proofs.Checks.{picked, pick-true, pick-false}
+use Rattle.wave.specs.declared.tally.Payload.{Payload}
 use Rattle.wave.specs.declared.tally.Tally.{Tally}
+use Rattle.wave.specs.declared.listing.Fact.the-variants as fact
 use Rattle.wave.specs.Scans.{chunksGood}
-use Rattle.wave.specs.Tallies.{metAs, metIn, tallyOf, meet, meeting, noted, metOnce, atMostOnce, factGood, placeOf, sizeOf, tallyGood}
+use Rattle.wave.specs.Contracts.{payloadOf, weight, changes, noted, allNoted, noTally, tallyGood, factOf, factIn}
 
 -- ---- one name
 
-metAll : ℕ → Met → List Entry → Met
-metAll name m [] = m
-metAll name m (e ∷ es) = metAll name (meeting name m e) es
+-- what is kept of a name after these rows, where each chunk of the name changes it so
+kept : {X : Type 0} → ℕ → (X → Entry → X) → X → List Entry → X
+kept name f x [] = x
+kept name f x (e ∷ es) = kept name f (changes name e (f x e) x) es
 
-more : (name : ℕ) (rows : List Entry) → metAll name More rows ≡ More
-unfolding metAll meeting meet
-more name [] = refl
-more name (e ∷ es) = ap (λ (m : Met). metAll name m es) (both (eqb (e .name) name)) ∙ more name es
+-- no chunk of the name
+kept-none : {X : Type 0} (name : ℕ) (f : X → Entry → X) (x : X) (rows : List Entry) → count name rows ≡ 0 → kept name f x rows ≡ x
+unfolding kept changes count
+kept-none name f x [] h = refl
+kept-none {X} name f x (e ∷ es) h = go (eqb (e .name) name) h (kept-none name f x es)
   where
-    both : (b : Bool) → pick b More More ≡ More
-    both true = refl
-    both false = refl
+    go : (b : Bool) → pick b (suc (count name es)) (count name es) ≡ 0 → (count name es ≡ 0 → kept name f x es ≡ x)
+        → kept name f (pick b (f x e) x) es ≡ x
+    go true p below = absurd (omega arith)
+    go false p below = below p
 
--- met once before these rows
-after : ℕ → Met → Met
-after zero m = m
-after (suc n) m = More
-
-once-more : (name p n : ℕ) (rows : List Entry) → metAll name (Once p n) rows ≡ after (count name rows) (Once p n)
-unfolding metAll meeting meet count after
-once-more name p n [] = refl
-once-more name p n (e ∷ es) = go (eqb (e .name) name) (once-more name p n es)
+-- one chunk of the name: the one that is found
+kept-one : {X : Type 0} (name : ℕ) (f : X → Entry → X) (x : X) (rows : List Entry) → count name rows ≡ 1
+    → kept name f x rows ≡ f x (find name rows)
+unfolding kept changes count find
+kept-one name f x [] h = absurd (omega arith)
+kept-one {X} name f x (e ∷ es) h = go (eqb (e .name) name) h (kept-one name f x es)
   where
-    go : (b : Bool) → metAll name (Once p n) es ≡ after (count name es) (Once p n)
-        → metAll name (pick b More (Once p n)) es ≡ after (pick b (suc (count name es)) (count name es)) (Once p n)
-    go true below = more name es
-    go false below = below
+    go : (b : Bool) → pick b (suc (count name es)) (count name es) ≡ 1 → (count name es ≡ 1 → kept name f x es ≡ f x (find name es))
+        → kept name f (pick b (f x e) x) es ≡ f x (pick b e (find name es))
+    go true p below = kept-none name f (f x e) es (omega arith)
+    go false p below = below p
 
-met-all : (name : ℕ) (rows : List Entry) → metAll name Never rows ≡ metIn name rows
-unfolding metAll meeting meet metIn metAs count find after
-met-all name [] = refl
-met-all name (e ∷ es) = go (eqb (e .name) name) (met-all name es)
+-- a number that grows by one with each chunk of the name
+kept-count : (name n : ℕ) (rows : List Entry) → kept name (λ n e. n + 1) n rows ≡ n + count name rows
+unfolding kept changes count
+kept-count name n [] = omega arith
+kept-count name n (e ∷ es) = go (λ m. kept-count name m es) (eqb (e .name) name)
   where
-    first : (n : ℕ) → after n (Once (e .place) (e .size)) ≡ metAs (suc n) e
-    first zero = refl
-    first (suc n) = refl
+    go : ((m : ℕ) → kept name (λ n e. n + 1) m es ≡ m + count name es) → (b : Bool)
+        → kept name (λ n e. n + 1) (pick b (n + 1) n) es ≡ n + pick b (suc (count name es)) (count name es)
+    go below true = omega (arith, below (n + 1))
+    go below false = below n
 
-    go : (b : Bool) → metAll name Never es ≡ metAs (count name es) (find name es)
-        → metAll name (pick b (Once (e .place) (e .size)) Never) es
-        ≡ metAs (pick b (suc (count name es)) (count name es)) (pick b e (find name es))
-    go true below = once-more name (e .place) (e .size) es ∙ first (count name es)
-    go false below = below
+counted-all : (name : ℕ) (rows : List Entry) → kept name (λ n e. n + 1) 0 rows ≡ count name rows
+counted-all name rows = omega (arith, kept-count name 0 rows)
 
-pub met-one : (name : ℕ) (rows : List Entry) → count name rows ≡ 1
-    → metIn name rows ≡ Once (find name rows .place) (find name rows .size)
-unfolding metIn metAs
-met-one name rows e = rw e
+weight-least : (e : Entry) → 1 ≤ weight e
+unfolding weight
+weight-least e = picked (λ (n : ℕ). 1 ≤ n) (ltb (e .size) 4) 2 1 (λ _. omega arith) (λ _. omega arith)
 
-pub met-none : (name : ℕ) (rows : List Entry) → count name rows ≡ 0 → metIn name rows ≡ Never
-unfolding metIn metAs
-met-none name rows e = rw e
+-- a number that grows by a weight grows by one at least
+kept-weight : (name n : ℕ) (rows : List Entry) → n + count name rows ≤ kept name (λ n e. n + weight e) n rows
+unfolding kept changes count
+kept-weight name n [] = omega arith
+kept-weight name n (e ∷ es) = go (λ m. kept-weight name m es) (eqb (e .name) name)
+  where
+    go : ((m : ℕ) → m + count name es ≤ kept name (λ n e. n + weight e) m es) → (b : Bool)
+        → n + pick b (suc (count name es)) (count name es) ≤ kept name (λ n e. n + weight e) (pick b (n + weight e) n) es
+    go below true = omega (arith, below (n + weight e), weight-least e)
+    go below false = below n
 
 -- ---- all names
 
--- these rows noted one after the other
-unfoldable pub tallied : Tally → List Entry → Tally
-tallied t [] = t
-tallied t (e ∷ es) = tallied (noted t e) es
-
-tallied-names : (t : Tally) (rows : List Entry)
-    → tallied t rows
+noted-names : (t : Tally) (rows : List Entry)
+    → allNoted t rows
     ≡ record {
-      fmt = metAll FMT (t .fmt) rows;
-      audio = metAll DATA (t .audio) rows;
-      fact = metAll FACT (t .fact) rows;
-      bext = metAll BEXT (t .bext) rows;
-      chna = metAll CHNA (t .chna) rows;
+      fmts = kept FMT (λ n e. n + 1) (t .fmts) rows;
+      datas = kept DATA (λ n e. n + 1) (t .datas) rows;
+      facts = kept FACT (λ n e. n + weight e) (t .facts) rows;
+      bexts = kept BEXT (λ n e. n + 1) (t .bexts) rows;
+      chnas = kept CHNA (λ n e. n + 1) (t .chnas) rows;
+      fmt = kept FMT (λ x e. payloadOf e) (t .fmt) rows;
+      audio = kept DATA (λ x e. payloadOf e) (t .audio) rows;
+      fact = kept FACT (λ x e. e .place) (t .fact) rows;
     }
-unfolding tallied metAll noted
-tallied-names t [] = refl
-tallied-names t (e ∷ es) = tallied-names (noted t e) es
+unfolding allNoted noted kept
+noted-names t [] = refl
+noted-names t (e ∷ es) = noted-names (noted t e) es
 
-pub tallied-all : (rows : List Entry) → tallied (tallyOf []) rows ≡ tallyOf rows
-unfolding tallyOf metIn metAs count
-tallied-all rows =
-    tallied-names (tallyOf []) rows
-    ∙ (λ i. record {
-      fmt = met-all FMT rows i;
-      audio = met-all DATA rows i;
-      fact = met-all FACT rows i;
-      bext = met-all BEXT rows i;
-      chna = met-all CHNA rows i;
-    })
+-- ds64 is none of the names
+pub noted-ds64 : (t : Tally) (e : Entry) → e .name ≡ DS64 → noted t e ≡ t
+unfolding noted changes pick
+noted-ds64 t e p = rw p
+
+module _ (rows : List Entry) where
+  abbrev all : Tally
+  all = allNoted noTally rows
+
+  all-fmts : all .fmts ≡ count FMT rows
+  unfolding noTally
+  all-fmts = ap (λ (t : Tally). t .fmts) (noted-names noTally rows) ∙ counted-all FMT rows
+
+  all-datas : all .datas ≡ count DATA rows
+  unfolding noTally
+  all-datas = ap (λ (t : Tally). t .datas) (noted-names noTally rows) ∙ counted-all DATA rows
+
+  all-bexts : all .bexts ≡ count BEXT rows
+  unfolding noTally
+  all-bexts = ap (λ (t : Tally). t .bexts) (noted-names noTally rows) ∙ counted-all BEXT rows
+
+  all-chnas : all .chnas ≡ count CHNA rows
+  unfolding noTally
+  all-chnas = ap (λ (t : Tally). t .chnas) (noted-names noTally rows) ∙ counted-all CHNA rows
+
+  pub all-fmt : count FMT rows ≡ 1 → all .fmt ≡ payloadOf (find FMT rows)
+  all-fmt h = ap (λ (t : Tally). t .fmt) (noted-names noTally rows) ∙ kept-one FMT _ _ rows h
+
+  pub all-audio : count DATA rows ≡ 1 → all .audio ≡ payloadOf (find DATA rows)
+  all-audio h = ap (λ (t : Tally). t .audio) (noted-names noTally rows) ∙ kept-one DATA _ _ rows h
+
+  all-fact : count FACT rows ≡ 1 → all .fact ≡ find FACT rows .place
+  all-fact h = ap (λ (t : Tally). t .fact) (noted-names noTally rows) ∙ kept-one FACT _ _ rows h
+
+  no-facts : count FACT rows ≡ 0 → all .facts ≡ 0
+  unfolding noTally
+  no-facts h = ap (λ (t : Tally). t .facts) (noted-names noTally rows) ∙ kept-none FACT _ _ rows h
+
+  one-fact : count FACT rows ≡ 1 → all .facts ≡ weight (find FACT rows)
+  unfolding noTally
+  one-fact h =
+      let k : all .facts ≡ 0 + weight (find FACT rows) =
+      ap (λ (t : Tally). t .facts) (noted-names noTally rows) ∙ kept-one FACT _ _ rows h in
+      omega (arith, k)
+
+  some-facts : count FACT rows ≤ all .facts
+  unfolding noTally
+  some-facts =
+      let k = kept-weight FACT 0 rows in
+      let e : all .facts ≡ kept FACT (λ n e. n + weight e) 0 rows = ap (λ (t : Tally). t .facts) (noted-names noTally rows) in
+      omega (arith, k, e)
 
 -- ---- check 10
 
-heads : (a b : ℕ) (f d : Entry) (r q : Bool) → r ≡ q
-    → pick (metOnce (metAs a f)) (pick (metOnce (metAs b d)) (pick (ltb (placeOf (metAs a f)) (placeOf (metAs b d))) r false) false) false
-    ≡ pick (eqb a 1) (pick (eqb b 1) (pick (ltb (f .place) (d .place)) q false) false) false
-unfolding metOnce metAs placeOf pick
-heads zero b f d r q e = refl
-heads (suc zero) zero f d r q e = refl
-heads (suc zero) (suc zero) f d r q e = ap (λ (k : Bool). pick (ltb (f .place) (d .place)) k false) e
-heads (suc zero) (suc (suc b)) f d r q e = sym (pick-false _ _ _ (ne-eqb (suc (suc b)) 1 (omega arith)))
-heads (suc (suc a)) b f d r q e = sym (pick-false _ _ _ (ne-eqb (suc (suc a)) 1 (omega arith)))
+-- a rule of `every` that says the same, and then the rules after it
+rules : (b c x y : Bool) → b ≡ c → (c ≡ true → x ≡ y) → pick b x false ≡ pick c y false
+unfolding pick
+rules b true x y p k = pick-true b x false p ∙ k refl
+rules b false x y p k = pick-false b x false p
 
-most : (n : ℕ) (e : Entry) → atMostOnce (metAs n e) ≡ leb n 1
-unfolding atMostOnce metAs
-most zero e = refl
-most (suc zero) e = refl
-most (suc (suc n)) e = sym (lt-leb (suc (suc n)) 1 (omega arith))
+-- a fact below 4 bytes counts twice
+weighed : (e : Entry) → leb (weight e) 1 ≡ leb 4 (e .size)
+unfolding weight
+weighed e =
+    picked (λ (n : ℕ). leb n 1 ≡ leb 4 (e .size)) (ltb (e .size) 4) 2 1
+    (λ h. sym (lt-leb 4 (e .size) (ltb-true _ _ h)))
+    (λ h. sym (le-leb 4 (e .size) (ltb-false _ _ h)))
 
-facts : (n : ℕ) (e : Entry) → pick (factGood (metAs n e)) true false ≡ pick (leb n 1) (pick (eqb n 0 || leb 4 (e .size)) true false) false
-unfolding factGood metAs pick
-facts zero e = refl
-facts (suc zero) e = refl
-facts (suc (suc n)) e = sym (pick-false _ _ _ (lt-leb (suc (suc n)) 1 (omega arith)))
+facts-good : (rows : List Entry)
+    → pick (leb (allNoted noTally rows .facts) 1) true false
+    ≡ pick (leb (count FACT rows) 1) (pick (eqb (count FACT rows) 0 || leb 4 (find FACT rows .size)) true false) false
+unfolding pick
+facts-good rows = go (count FACT rows) refl
+  where
+    go : (n : ℕ) → count FACT rows ≡ n
+        → pick (leb (allNoted noTally rows .facts) 1) true false
+        ≡ pick (leb n 1) (pick (eqb n 0 || leb 4 (find FACT rows .size)) true false) false
+    go zero h = ap (λ (n : ℕ). pick (leb n 1) true false) (no-facts rows h)
+    go (suc zero) h = ap (λ (b : Bool). pick b true false) (ap (λ (n : ℕ). leb n 1) (one-fact rows h) ∙ weighed (find FACT rows))
+    go (suc (suc n)) h =
+        pick-false _ _ _ (lt-leb (allNoted noTally rows .facts) 1 (omega (arith, h, some-facts rows)))
+        ∙ sym (pick-false _ _ _ (lt-leb (suc (suc n)) 1 (omega arith)))
 
-pub tally-good : (rows : List Entry) → tallyGood (tallyOf rows) ≡ chunksGood rows
-unfolding tallyGood tallyOf metIn chunksGood
+pub tally-good : (rows : List Entry) → tallyGood (allNoted noTally rows) ≡ chunksGood rows
+unfolding tallyGood chunksGood payloadOf
 tally-good rows =
-    heads (count FMT rows) (count DATA rows) (find FMT rows) (find DATA rows) _ _
-    (ap₂ (λ (b c : Bool). pick b (pick c (pick (factGood (metIn FACT rows)) true false) false) false) (most (count BEXT rows) _) (most (count CHNA rows) _)
-    ∙ ap (λ (k : Bool). pick (leb (count BEXT rows) 1) (pick (leb (count CHNA rows) 1) k false) false) (facts (count FACT rows) (find FACT rows)))
+    rules _ _ _ _ (ap (λ (n : ℕ). eqb n 1) (all-fmts rows)) λ p.
+    rules _ _ _ _ (ap (λ (n : ℕ). eqb n 1) (all-datas rows)) λ q.
+    rules _ _ _ _ (ap₂ (λ (x y : Payload). ltb (x .place) (y .place)) (all-fmt rows (eqb-true _ _ p)) (all-audio rows (eqb-true _ _ q))) λ _.
+    rules _ _ _ _ (ap (λ (n : ℕ). leb n 1) (all-bexts rows)) λ _.
+    rules _ _ _ _ (ap (λ (n : ℕ). leb n 1) (all-chnas rows)) λ _.
+    facts-good rows
 
--- the tests of check 10 in turn
-module _ (t : Tally) where
-  pub no-fmt : metOnce (t .fmt) ≡ false → tallyGood t ≡ false
-  unfolding tallyGood
-  no-fmt e = rw e
-
-  pub no-data : metOnce (t .fmt) ≡ true → metOnce (t .audio) ≡ false → tallyGood t ≡ false
-  unfolding tallyGood
-  no-data a e = rw (a, e)
-
-  pub no-order : metOnce (t .fmt) ≡ true → metOnce (t .audio) ≡ true → placeOf (t .audio) ≤ placeOf (t .fmt) → tallyGood t ≡ false
-  unfolding tallyGood
-  no-order a b e = rw (a, b, le-ltb (placeOf (t .fmt)) (placeOf (t .audio)) e)
-
-  pub no-bext : metOnce (t .fmt) ≡ true → metOnce (t .audio) ≡ true → placeOf (t .fmt) < placeOf (t .audio) → atMostOnce (t .bext) ≡ false
-      → tallyGood t ≡ false
-  unfolding tallyGood
-  no-bext a b l e = rw (a, b, lt-ltb (placeOf (t .fmt)) (placeOf (t .audio)) l, e)
-
-  pub no-chna : metOnce (t .fmt) ≡ true → metOnce (t .audio) ≡ true → placeOf (t .fmt) < placeOf (t .audio) → atMostOnce (t .bext) ≡ true
-      → atMostOnce (t .chna) ≡ false → tallyGood t ≡ false
-  unfolding tallyGood
-  no-chna a b l c e = rw (a, b, lt-ltb (placeOf (t .fmt)) (placeOf (t .audio)) l, c, e)
-
-  pub by-fact : metOnce (t .fmt) ≡ true → metOnce (t .audio) ≡ true → placeOf (t .fmt) < placeOf (t .audio) → atMostOnce (t .bext) ≡ true
-      → atMostOnce (t .chna) ≡ true → tallyGood t ≡ factGood (t .fact)
-  unfolding tallyGood
-  by-fact a b l c d = rw (a, b, lt-ltb (placeOf (t .fmt)) (placeOf (t .audio)) l, c, d) (only (factGood (t .fact)))
-    where
-      only : (k : Bool) → pick k true false ≡ k
-      only true = refl
-      only false = refl
-
--- ---- one chunk more
-
-module _ (e : Entry) where
-  same : (name : ℕ) (k m : Met) → e .name ≡ name → m ≡ meet k e → m ≡ meeting name k e
-  unfolding meeting
-  same name k m p q = q ∙ sym (pick-true _ _ _ (eq-eqb (e .name) name p))
-
-  other : (name : ℕ) (k : Met) → (e .name ≡ name → ⊥) → k ≡ meeting name k e
-  unfolding meeting
-  other name k n = sym (pick-false _ _ _ (ne-eqb (e .name) name n))
-
-  -- a chunk of one of the names changes what was met of that name
-  module _ (t : Tally) (m : Met) where
-    pub note-fmt : e .name ≡ FMT → m ≡ meet (t .fmt) e → record { fmt = m; audio = t .audio; fact = t .fact; bext = t .bext; chna = t .chna } ≡ noted t e
-    unfolding noted
-    note-fmt p q = λ i. record {
-      fmt = same FMT (t .fmt) m p q i;
-      audio = other DATA (t .audio) (omega (arith, p)) i;
-      fact = other FACT (t .fact) (omega (arith, p)) i;
-      bext = other BEXT (t .bext) (omega (arith, p)) i;
-      chna = other CHNA (t .chna) (omega (arith, p)) i;
-    }
-
-    pub note-audio : e .name ≡ DATA → m ≡ meet (t .audio) e → record { fmt = t .fmt; audio = m; fact = t .fact; bext = t .bext; chna = t .chna } ≡ noted t e
-    unfolding noted
-    note-audio p q = λ i. record {
-      fmt = other FMT (t .fmt) (omega (arith, p)) i;
-      audio = same DATA (t .audio) m p q i;
-      fact = other FACT (t .fact) (omega (arith, p)) i;
-      bext = other BEXT (t .bext) (omega (arith, p)) i;
-      chna = other CHNA (t .chna) (omega (arith, p)) i;
-    }
-
-    pub note-fact : e .name ≡ FACT → m ≡ meet (t .fact) e → record { fmt = t .fmt; audio = t .audio; fact = m; bext = t .bext; chna = t .chna } ≡ noted t e
-    unfolding noted
-    note-fact p q = λ i. record {
-      fmt = other FMT (t .fmt) (omega (arith, p)) i;
-      audio = other DATA (t .audio) (omega (arith, p)) i;
-      fact = same FACT (t .fact) m p q i;
-      bext = other BEXT (t .bext) (omega (arith, p)) i;
-      chna = other CHNA (t .chna) (omega (arith, p)) i;
-    }
-
-    pub note-bext : e .name ≡ BEXT → m ≡ meet (t .bext) e → record { fmt = t .fmt; audio = t .audio; fact = t .fact; bext = m; chna = t .chna } ≡ noted t e
-    unfolding noted
-    note-bext p q = λ i. record {
-      fmt = other FMT (t .fmt) (omega (arith, p)) i;
-      audio = other DATA (t .audio) (omega (arith, p)) i;
-      fact = other FACT (t .fact) (omega (arith, p)) i;
-      bext = same BEXT (t .bext) m p q i;
-      chna = other CHNA (t .chna) (omega (arith, p)) i;
-    }
-
-    pub note-chna : e .name ≡ CHNA → m ≡ meet (t .chna) e → record { fmt = t .fmt; audio = t .audio; fact = t .fact; bext = t .bext; chna = m } ≡ noted t e
-    unfolding noted
-    note-chna p q = λ i. record {
-      fmt = other FMT (t .fmt) (omega (arith, p)) i;
-      audio = other DATA (t .audio) (omega (arith, p)) i;
-      fact = other FACT (t .fact) (omega (arith, p)) i;
-      bext = other BEXT (t .bext) (omega (arith, p)) i;
-      chna = same CHNA (t .chna) m p q i;
-    }
-
-  pub note-none : (t : Tally) → (e .name ≡ FMT → ⊥) → (e .name ≡ DATA → ⊥) → (e .name ≡ FACT → ⊥) → (e .name ≡ BEXT → ⊥)
-      → (e .name ≡ CHNA → ⊥) → t ≡ noted t e
-  unfolding noted
-  note-none t a b c d f = λ i. record {
-    fmt = other FMT (t .fmt) a i;
-    audio = other DATA (t .audio) b i;
-    fact = other FACT (t .fact) c i;
-    bext = other BEXT (t .bext) d i;
-    chna = other CHNA (t .chna) f i;
-  }
+-- where there is no second fact, fact of the tally is fact of the rows
+pub tally-fact : (rows : List Entry) → count FACT rows ≤ 1 → factOf (allNoted noTally rows) ≡ factIn rows
+unfolding factOf factIn pick
+tally-fact rows = go (count FACT rows) refl
+  where
+    go : (n : ℕ) → count FACT rows ≡ n → n ≤ 1
+        → pick (eqb (allNoted noTally rows .facts) 0) fact.None (fact.At (allNoted noTally rows .fact))
+        ≡ pick (eqb n 0) fact.None (fact.At (find FACT rows .place))
+    go zero h k = pick-true (eqb (allNoted noTally rows .facts) 0) _ _ (eq-eqb (allNoted noTally rows .facts) 0 (no-facts rows h))
+    go (suc zero) h k =
+        pick-false (eqb (allNoted noTally rows .facts) 0) _ _
+        (ne-eqb (allNoted noTally rows .facts) 0 (λ z. omega (arith, z, some-facts rows, h)))
+        ∙ ap fact.At (all-fact rows h)
+    go (suc (suc n)) h k = absurd (omega arith)

@@ -11,11 +11,11 @@ use Rattle.chunk.specs.declared.Entry.{Entry}
 use Rattle.chunk.specs.Refusals.{given}
 use Rattle.chunk.specs.Names.{WAVE, DS64, FMT, DATA, FACT, BEXT, CHNA}
 use Rattle.chunk.specs.Fields.{ONES}
-use Rattle.chunk.specs.Tables.{count, find}
+use Rattle.chunk.specs.Tables.{count, find, LIMIT}
 use Rattle.form.specs.declared.Form.{Form}
 use Rattle.form.specs.declared.Ds64.{Ds64}
-use Rattle.form.specs.Forms.{nameOf, isWide, noDs64}
-use Rattle.form.specs.Sizes.{Known}
+use Rattle.form.specs.Forms.{nameOf, isWide, noDs64, ENTRIES}
+use Rattle.form.specs.Sizes.{Ds64Entry}
 use Rattle.fmt.specs.Formats.{formatIn}
 use Rattle.wave.specs.Scans.{Scan, scan}
 
@@ -41,12 +41,12 @@ unfoldable pub fileBytes : Form → ℕ → List Chunk → List ℕ
 fileBytes form field cs = bytes 4 (nameOf form) ++ (bytes 4 field ++ (bytes 4 WAVE ++ allBytes cs))
 
 -- ds64's "entries of 12 bytes: a name and a 64-bit size"
-unfoldable pub entriesBytes : List Known → List ℕ
+unfoldable pub entriesBytes : List Ds64Entry → List ℕ
 entriesBytes [] = []
 entriesBytes (k ∷ ks) = bytes 4 (k .name) ++ (bytes 8 (k .size) ++ entriesBytes ks)
 
 -- "form size (64 bits), data size (64 bits), a third 64-bit number, the entry count (32 bits), then entries"
-unfoldable pub ds64Bytes : Ds64 → List Known → List ℕ
+unfoldable pub ds64Bytes : Ds64 → List Ds64Entry → List ℕ
 ds64Bytes d ks =
     bytes 8 (d .«form_size»)
     ++ (bytes 8 (d .«data_size») ++ (bytes 8 (d .third) ++ (bytes 4 (d .count) ++ entriesBytes ks)))
@@ -69,7 +69,7 @@ unfoldable pub Without : ℕ → List Chunk → Type 0
 Without name cs = (c : Chunk) → List·Memᴰ c cs → c .name ≡ name → ⊥
 
 -- "RF64 and BW64 must have ds64 as first chunk": the chunks start with one that holds these numbers and entries
-pub record Ds64First (d : Ds64) (ks : List Known) (cs : List Chunk) : Type 0 where
+pub record Ds64First (d : Ds64) (ks : List Ds64Entry) (cs : List Chunk) : Type 0 where
   pub first : Chunk
   pub later : List Chunk
   pub is : cs ≡ first ∷ later
@@ -83,22 +83,22 @@ pub record Ds64First (d : Ds64) (ks : List Known) (cs : List Chunk) : Type 0 whe
   pub payload : first .payload ≡ ds64Bytes d ks ++ more
   -- "count is at most 16"
   pub counts : d .count ≡ length ks
-  pub few : d .count ≤ 16
+  pub few : d .count ≤ ENTRIES
   -- names of 4 bytes, numbers of 64 bits
   pub fits : (d .«form_size» < 256 ^ 8) × (d .«data_size» < 256 ^ 8) × (d .third < 256 ^ 8)
-  pub entriesFit : (k : Known) → List·Memᴰ k ks → (k .name < 256 ^ 4) × (k .size < 256 ^ 8)
+  pub entriesFit : (k : Ds64Entry) → List·Memᴰ k ks → (k .name < 256 ^ 4) × (k .size < 256 ^ 8)
 
 -- "the first entry of that name" has this size
-pub record FirstEntry (name size : ℕ) (ks : List Known) : Type 0 where
-  pub before : List Known
-  pub after : List Known
+pub record FirstEntry (name size : ℕ) (ks : List Ds64Entry) : Type 0 where
+  pub before : List Ds64Entry
+  pub after : List Ds64Entry
   pub is : ks ≡ before ++ record { name = name; size = size } ∷ after
-  pub none : (k : Known) → List·Memᴰ k before → k .name ≡ name → ⊥
+  pub none : (k : Ds64Entry) → List·Memᴰ k before → k .name ≡ name → ⊥
 
 -- ---- a chunk
 
 -- a chunk of a form whose ds64 holds these numbers and entries
-pub record GoodChunk (form : Form) (d : Ds64) (ks : List Known) (c : Chunk) : Type 0 where
+pub record GoodChunk (form : Form) (d : Ds64) (ks : List Ds64Entry) (c : Chunk) : Type 0 where
   -- "a 4-byte name, a 32-bit size field"
   pub nameFits : c .name < 256 ^ 4
   pub fieldFits : c .field < 256 ^ 4
@@ -128,12 +128,12 @@ pub record GoodFile (s : List ℕ) (a : Scan) : Type 0 where
   pub own : (field ≡ ONES → ⊥) → 8 + field ≡ length s
   pub ones : field ≡ ONES → (isWide (a .head .form) ≡ true) × (8 + a .head .ds64 .«form_size» ≡ length s)
   -- "RF64 and BW64 must have ds64 as first chunk"; a ds64 "in RIFF, is refused", so that there its numbers are zeros
-  pub entries : List Known
+  pub entries : List Ds64Entry
   pub wide : isWide (a .head .form) ≡ true → Ds64First (a .head .ds64) entries chunks
   pub riff : isWide (a .head .form) ≡ false → (a .head .ds64 ≡ noDs64) × (entries ≡ []) × Without DS64 chunks
   -- each chunk is good, and "a 65th header" is refused
   pub good : (c : Chunk) → List·Memᴰ c chunks → GoodChunk (a .head .form) (a .head .ds64) entries c
-  pub most : length chunks ≤ 64
+  pub most : length chunks ≤ LIMIT
   -- "The scan's table has name, payload place and true size of each chunk, in file order."
   pub rows : a .rows ≡ rowsAt 12 chunks
   -- "exactly one fmt and one data, fmt first, and at most one each of bext, chna and fact"

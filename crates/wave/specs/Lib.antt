@@ -2,5 +2,5 @@ pub mod Scans
 pub mod Tables
 pub mod Grammar
 pub mod Demand3
-pub mod Tallies
 pub mod Words
+pub mod Contracts

@@ -1,20 +1,19 @@
 -- Document 01, "Refusal numbers" and "The 32-bit walk": the scan as a listing (checks 1 to 10) and a judgement (11 and
 -- 12), the sample count, and the 32-bit walk.
 use Prim.Native.Nat.{ℕ, _%_}
-use mathlib.Core.Bool.{Bool, true, _||_}
+use mathlib.Core.Bool.{Bool, _||_}
 use mathlib.Core.List.{List, [], _∷_}
 use lib.Dec.{eqb, leb, ltb}
 use Rattle.le.specs.Number.{number, field}
 use Rattle.le.specs.Choice.{pick, every}
 use Rattle.chunk.specs.declared.Entry.{Entry}
-use Rattle.chunk.specs.declared.Refusal.{Refusal}
 use Rattle.chunk.specs.declared.Refusal.the-variants.{BadChunkSet, RaggedAudio}
 use Rattle.chunk.specs.declared.Verdict.{Verdict}
 use Rattle.chunk.specs.declared.Verdict.the-variants.{Accepted, Refused}
-use Rattle.chunk.specs.Refusals.{Answer, refused, given, check, andThen}
+use Rattle.chunk.specs.Refusals.{refusalNumber, Answer, refused, given, check, andThen}
 use Rattle.chunk.specs.Names.{FMT, DATA, FACT, BEXT, CHNA}
 use Rattle.chunk.specs.Fields.{ONES}
-use Rattle.chunk.specs.Tables.{count, find}
+use Rattle.chunk.specs.Tables.{count, find, LIMIT}
 use Rattle.chunk.specs.Walks.{Walked, walk, ownSize}
 use Rattle.form.specs.declared.Form.{Form}
 use Rattle.form.specs.declared.Form.the-variants.{Riff, Rf64, Bw64}
@@ -55,7 +54,7 @@ pub record Listing : Type 0 where
 
 -- the walk of the headers by the true sizes
 unfoldable pub headers : Head → List ℕ → Walked
-headers h s = walk (trueSize h (entriesOf h s)) s 64 12
+headers h s = walk (trueSize h (entriesOf h s)) s LIMIT 12
 
 unfoldable pub listing : List ℕ → Answer Listing
 unfolding andThen check
@@ -125,12 +124,23 @@ samplesAs (given a) s = samplesIn a s
 unfoldable pub samplesOf : List ℕ → Samples
 samplesOf s = samplesAs (scan s) s
 
+-- the number of this answer, 0 where nothing is refused, and its values: 1 and the count, or two zeros
+unfoldable pub samplesNumber : Samples → ℕ
+samplesNumber (samples.Count n) = 0
+samplesNumber samples.None = 0
+samplesNumber (samples.Refused r) = refusalNumber r
+
+unfoldable pub samplesValues : Samples → List ℕ
+samplesValues (samples.Count n) = 1 ∷ n ∷ []
+samplesValues samples.None = 0 ∷ 0 ∷ []
+samplesValues (samples.Refused r) = 0 ∷ 0 ∷ []
+
 -- ---- the 32-bit walk
 
 -- the walk from where checks 1, 2 and 5 let it start, or their refusal with nothing shown
 unfoldable pub walkFrom : Answer ℕ → List ℕ → Walked
 walkFrom (refused r) s = record { rows = []; end = Refused r }
-walkFrom (given at) s = walk ownSize s 64 at
+walkFrom (given at) s = walk ownSize s LIMIT at
 
 unfoldable pub walk32 : List ℕ → Walked
 walk32 s = walkFrom (openFor32 s) s

@@ -8,7 +8,7 @@ use Rattle.le.specs.Number.{number}
 use Rattle.chunk.specs.declared.Entry.{Entry}
 use Rattle.chunk.specs.Names.{DS64, FMT, DATA}
 use Rattle.chunk.specs.Fields.{ONES}
-use Rattle.chunk.specs.Tables.{count, find}
+use Rattle.chunk.specs.Tables.{count, find, LIMIT}
 use Rattle.chunk.specs.Walks.{past}
 use Rattle.form.specs.Forms.{isWide}
 use Rattle.wave.specs.Scans.{Scan}
@@ -26,7 +26,7 @@ EndToEnd at (e ∷ es) len = (e .place ≡ at + 8) × EndToEnd (past e) es len
 -- Of a file that the scan accepts:
 pub record GoodTable (s : List ℕ) (a : Scan) : Type 0 where
   -- "at most 64 chunks"; the table in file order, from byte 12 to the end of the file
-  pub most : length (a .rows) ≤ 64
+  pub most : length (a .rows) ≤ LIMIT
   pub endToEnd : EndToEnd 12 (a .rows) (length s)
   -- each row has the name that its header has, and lies inside the file with its pad
   pub named : (e : Entry) → List·Memᴰ e (a .rows) → e .name ≡ number 4 (e .place - 8) s

@@ -3,16 +3,22 @@
 // Each comes twice where it gives a table: once by value, and once into words that the caller lends, laid out as
 // chunk::Table has them. Nothing is asked of the bytes or of the words.
 pub mod listing;
+mod rows;
 pub mod tally;
 
 use chunk::Refusal;
 use chunk::Table;
 use chunk::Verdict;
-use listing::Survey;
-use tally::Met;
+use form::Form;
+use form::Head;
+use listing::Examined;
+use listing::Fact;
 ghost use mathlib.Core.Path.{_≡_};
+ghost use Prim.Native.Nat.{_+_, _≤_};
+ghost use lib.ListN.{length};
 ghost use Rattle.wave.specs.Scans.{samplesOf};
 ghost use Rattle.wave.specs.Words.{ScanDone, WalkDone, scanTable, walkTable};
+ghost use Rattle.wave.specs.Contracts.{countAt};
 
 // A table, and how the operation that made it ended.
 pub struct Tabled {
@@ -39,13 +45,14 @@ pub fn scan_into(file: &[u8], words: &mut [u64]) -> Verdict
         return Verdict::Refused(Refusal::ShortOutput);
     }
     match listing::examine(file) {
-        Survey::Refused(r) => {
+        Examined::Refused(r) => {
             words[0] = 0;
             Verdict::Refused(r)
         }
-        Survey::Accepted(a) => {
+        Examined::Accepted(a) => {
             let head = a.head;
-            listing::list_rows(file, head, words)
+            rows::fill(file, head, a.count, words);
+            Verdict::Accepted
         }
     }
 }
@@ -54,7 +61,8 @@ pub fn scan_into(file: &[u8], words: &mut [u64]) -> Verdict
 pub fn scan(file: &[u8]) -> Tabled
     ensures { λ r. ⌜ r ≡ scanTable (now (file .entry)) ⌝ }
 {
-    let mut words = [0u64; Table::WORDS];
+    let empty = Table::empty();
+    let mut words = empty.words;
     let verdict = scan_into(file, &mut words);
     Tabled {
         table: Table { words },
@@ -74,7 +82,7 @@ pub fn walk32_into(file: &[u8], words: &mut [u64]) -> Verdict
             words[0] = 0;
             Verdict::Refused(r)
         }
-        Verdict::Accepted => listing::list32(file, words),
+        Verdict::Accepted => rows::list32(file, words),
     }
 }
 
@@ -82,11 +90,29 @@ pub fn walk32_into(file: &[u8], words: &mut [u64]) -> Verdict
 pub fn walk32(file: &[u8]) -> Tabled
     ensures { λ r. ⌜ r ≡ walkTable (now (file .entry)) ⌝ }
 {
-    let mut words = [0u64; Table::WORDS];
+    let empty = Table::empty();
+    let mut words = empty.words;
     let verdict = walk32_into(file, &mut words);
     Tabled {
         table: Table { words },
         verdict,
+    }
+}
+
+// The sample count of a file whose fact payload starts at a place.
+fn fact_count(file: &[u8], head: Head, place: u64) -> Samples
+    requires { ⌜ place + 4 ≤ length (now file) ⌝ }
+    ensures { λ r. ⌜ r ≡ countAt head place (now (file .entry)) ⌝ }
+{
+    let own = le::read4(file, place as usize);
+    if own != chunk::ONES {
+        return Samples::Count(own);
+    }
+    let form = head.form;
+    match form {
+        Form::Rf64 => Samples::Count(head.ds64.third),
+        Form::Riff => Samples::Count(own),
+        Form::Bw64 => Samples::Count(own),
     }
 }
 
@@ -95,14 +121,12 @@ pub fn sample_count(file: &[u8]) -> Samples
     ensures { λ r. ⌜ r ≡ samplesOf (now (file .entry)) ⌝ }
 {
     match listing::examine(file) {
-        Survey::Refused(r) => Samples::Refused(r),
-        Survey::Accepted(a) => {
-            let tally = a.tally;
-            let fact = tally.fact;
+        Examined::Refused(r) => Samples::Refused(r),
+        Examined::Accepted(a) => {
+            let fact = a.fact;
             match fact {
-                Met::Once(place, _) => listing::fact_count(file, a.head, place),
-                Met::Never => Samples::None,
-                Met::More => Samples::None,
+                Fact::At(place) => fact_count(file, a.head, place),
+                Fact::None => Samples::None,
             }
         }
     }

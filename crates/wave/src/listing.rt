@@ -1,168 +1,264 @@
-// The loops over the headers, and the judgement after the scan's.
-use super::Samples;
+// The scan but for its table: the listing (checks 1 to 10), then the judgement (11 and 12).
+use super::tally::Payload;
 use super::tally::Tally;
-use chunk::Name;
+use chunk::Header;
 use chunk::Refusal;
 use chunk::Step;
 use chunk::Table;
-use chunk::Verdict;
 use fmt::Format;
 use fmt::Reading;
-use form::Form;
 use form::Head;
 use form::Opened;
+use form::Start;
 ghost use mathlib.Core.Path.{_≡_};
-ghost use Prim.Native.Nat.{_+_, _≤_};
-ghost use lib.ListN.{length};
-ghost use Rattle.chunk.specs.Walks.{ownSize};
-ghost use Rattle.form.specs.Answers.{EntriesFit};
-ghost use Rattle.form.specs.Sizes.{trueSize, entriesOf};
-ghost use Rattle.wave.specs.Scans.{scan};
-ghost use Rattle.wave.specs.Words.{Lists, ListedIs, FmtFits, judgeOf, surveyOf, countAt};
+ghost use Prim.Native.Nat.{_+_, _-_, _^_, _<_};
+ghost use Rattle.chunk.specs.Tables.{LIMIT};
+ghost use Rattle.chunk.specs.Contracts.{Due, headerOf, walkAfter, full};
+ghost use Rattle.wave.specs.Scans.{listing, scan};
+ghost use Rattle.wave.specs.Contracts.{Small, noTally, factOf, passedFrom, restOf, Begins, tallyAs, chunksAs, bareAs, listedAs, FmtFits, judgeOf, examinedAs};
 
-// What the scan's walk comes to.
-pub struct Listed {
-    pub verdict: Verdict,
-    pub tally: Tally,
-    // The number of chunks.
-    pub rows: u64,
+// fact's payload starts at a place, or there is no fact.
+pub enum Fact {
+    At(u64),
+    None,
 }
 
-// What the scan knows of an accepted file besides its table.
-pub struct Known {
+// What checks 1 to 10 found.
+pub struct Listing {
     pub head: Head,
-    pub tally: Tally,
-    pub format: Format,
-    pub rows: u64,
+    // The header of the first chunk; in a 64-bit form of the first past ds64.
+    pub first: Header,
+    pub fmt: Payload,
+    pub audio: Payload,
+    pub fact: Fact,
+    // The number of chunks.
+    pub count: u64,
 }
 
-pub enum Survey {
-    Accepted(Known),
+pub enum Listed {
+    Listing(Listing),
     Refused(Refusal),
 }
 
-// The 32-bit walk from byte 12, its chunks stored as rows.
-pub fn list32(file: &[u8], words: &mut [u64]) -> Verdict
-    requires { ⌜ (12 ≤ length (now file)) × (257 ≤ length (now words)) ⌝ }
-    ensures { λ r. ⌜ Lists ownSize (now (file .entry)) (now (words .entry)) r (now (words .exit)) ⌝ }
-{
-    let mut at: u64 = 12;
-    let mut used: usize = 0;
-    loop {
-        let found = chunk::header::step32(file, at, (Table::LIMIT - used) as u64);
-        let Step::Chunk(entry, next) = found else {
-            words[0] = used as u64;
-            return chunk::header::stop(found);
-        };
-        chunk::put_row(words, used, entry);
-        at = next;
-        used += 1;
-    }
+// What the scan knows of a file that it accepts, besides its table.
+pub struct Accepted {
+    pub head: Head,
+    pub first: Header,
+    pub audio: Payload,
+    pub fact: Fact,
+    pub count: u64,
+    pub format: Format,
 }
 
-// The scan's walk from byte 12, its chunks stored as rows.
-pub fn list_rows(file: &[u8], head: Head, words: &mut [u64]) -> Verdict
-    requires { ⌜ (12 ≤ length (now file)) × (257 ≤ length (now words)) × EntriesFit head (now file) ⌝ }
-    ensures { λ r. ⌜ Lists (trueSize head (entriesOf head (now (file .entry)))) (now (file .entry)) (now (words .entry)) r (now (words .exit)) ⌝ }
-{
-    let mut at: u64 = 12;
-    let mut count: usize = 0;
-    loop {
-        let found = form::truesize::step(file, head, at, (Table::LIMIT - count) as u64);
-        let Step::Chunk(entry, next) = found else {
-            words[0] = count as u64;
-            return chunk::header::stop(found);
-        };
-        chunk::put_row(words, count, entry);
-        at = next;
-        count += 1;
-    }
+pub enum Examined {
+    Accepted(Accepted),
+    Refused(Refusal),
 }
 
-// The scan's walk from byte 12, its chunks noted. Nothing is stored, so that a refused file leaves no row behind.
-fn list(file: &[u8], head: Head) -> Listed
-    requires { ⌜ (12 ≤ length (now file)) × EntriesFit head (now file) ⌝ }
-    ensures { λ r. ⌜ ListedIs head (now (file .entry)) r ⌝ }
+// Where a run of passed chunks ends, and how many headers may still come.
+pub struct Passed {
+    pub place: u64,
+    pub room: u64,
+}
+
+// What is noted of chunks: their tally, the first header, and their number.
+pub struct Noted {
+    pub tally: Tally,
+    pub first: Header,
+    pub count: u64,
+}
+
+pub enum Tallied {
+    Noted(Noted),
+    Refused(Refusal),
+}
+
+// Passes the chunks that no rule asks for: the field is the size, the name starts with none of b to f, and a whole header
+// follows. One test of the end tells all of that chunk and of the next header.
+fn pass(file: &[u8], from: u64, rooms: u64) -> Passed
+    requires { ⌜ Due (now file) from ⌝ }
+    ensures { λ r. ⌜ r ≡ passedFrom (now (file .entry)) rooms from ⌝ }
 {
-    let mut at: u64 = 12;
-    let mut used: u64 = 0;
-    let mut tally = super::tally::none();
-    loop {
-        let found = form::truesize::step(file, head, at, Table::LIMIT as u64 - used);
-        let Step::Chunk(entry, next) = found else {
-            return Listed {
-                verdict: chunk::header::stop(found),
+    let len = file.len() as u64;
+    let mut place = from;
+    let mut room = rooms;
+    while 0 < room {
+        let i = place as usize;
+        let field = le::read4(file, i - 4);
+        if field == chunk::ONES {
+            return Passed { place, room };
+        }
+        let letter = file[i - 8];
+        if b'b' <= letter && letter <= b'f' {
+            return Passed { place, room };
+        }
+        let next = chunk::steps::past(place, field);
+        if len < next {
+            return Passed { place, room };
+        }
+        place = next;
+        room -= 1;
+    }
+    Passed { place, room }
+}
+
+// How the walk ends at a step after which no header may come.
+fn last(found: Step, n: Noted) -> Tallied
+    requires { ⌜ Small (n .tally) × (n .count < 2 ^ 32) ⌝ }
+    ensures { λ r. ⌜ r ≡ tallyAs (n .first) (n .count) (n .tally) (walkAfter found full) ⌝ }
+{
+    match found {
+        Step::Chunk(_, _) => Tallied::Refused(Refusal::TooMany),
+        Step::Last(e) => {
+            let t = n.tally;
+            let first = n.first;
+            let tally = super::tally::note(t, e);
+            Tallied::Noted(Noted {
                 tally,
-                rows: used,
-            };
+                first,
+                count: n.count + 1,
+            })
+        }
+        Step::Cut(_) => Tallied::Refused(Refusal::CutHeader),
+        Step::Stop(r) => Tallied::Refused(r),
+    }
+}
+
+// The walk past ds64 by the true sizes, its chunks noted. Nothing is stored, so that a refused file leaves no row behind.
+fn walk(file: &[u8], o: Start) -> Tallied
+    requires { ⌜ Begins (now file) o ⌝ }
+    ensures { λ r. ⌜ r ≡ tallyAs (headerOf (o .place) (now (file .entry))) (LIMIT - o .room) noTally (restOf o (now (file .entry))) ⌝ }
+{
+    let head = o.head;
+    let mut place = o.place;
+    let mut room = o.room;
+    let mut tally = super::tally::none();
+    let first = chunk::steps::header(file, place);
+    let mut h = first;
+    loop {
+        let found = form::truesize::step(file, head, place, h);
+        let Step::Chunk(entry, next) = found else {
+            let count = Table::LIMIT as u64 - room;
+            return last(
+                found,
+                Noted {
+                    tally,
+                    first,
+                    count,
+                },
+            );
         };
         tally = super::tally::note(tally, entry);
-        at = next;
-        used += 1;
+        let p = pass(file, next, room - 1);
+        place = p.place;
+        room = p.room;
+        if room == 0 {
+            return Tallied::Refused(Refusal::TooMany);
+        }
+        h = chunk::steps::header(file, place);
     }
 }
 
-// Checks 10, 11 and 12.
-fn judge(file: &[u8], head: Head, l: Listed) -> Survey
-    requires { ⌜ FmtFits (l .tally) (now file) ⌝ }
-    ensures { λ r. ⌜ r ≡ judgeOf head (l .tally) (l .rows) (now (file .entry)) ⌝ }
+// fact of a tally.
+fn fact_of(t: Tally) -> Fact
+    ensures { λ r. ⌜ r ≡ factOf t ⌝ }
 {
-    let tally = l.tally;
-    if !super::tally::good(tally) {
-        return Survey::Refused(Refusal::BadChunkSet);
+    if t.facts == 0 {
+        return Fact::None;
     }
-    let fmt = tally.fmt;
-    let audio = tally.audio;
-    let place = super::tally::place_of(fmt);
-    let bytes = super::tally::size_of(audio);
-    let a = place as usize;
-    let e = (place + super::tally::size_of(fmt)) as usize;
-    match fmt::read(&file[a..e]) {
-        Reading::Refused(r) => Survey::Refused(r),
-        Reading::Record(format) => {
-            if bytes % format.block != 0 {
-                return Survey::Refused(Refusal::RaggedAudio);
+    Fact::At(t.fact)
+}
+
+// Check 10.
+fn chunks(head: Head, n: Noted) -> Listed
+    ensures { λ r. ⌜ r ≡ chunksAs head n ⌝ }
+{
+    let t = n.tally;
+    if !super::tally::good(t) {
+        return Listed::Refused(Refusal::BadChunkSet);
+    }
+    let first = n.first;
+    let fmt = t.fmt;
+    let audio = t.audio;
+    let fact = fact_of(t);
+    Listed::Listing(Listing {
+        head,
+        first,
+        fmt,
+        audio,
+        fact,
+        count: n.count,
+    })
+}
+
+// A file that ends where a header past ds64 is due has no fmt; else 1 to 7 bytes are left.
+fn bare(len: u64, end: u64) -> Refusal
+    ensures { λ r. ⌜ r ≡ bareAs len end ⌝ }
+{
+    if end == len {
+        return Refusal::BadChunkSet;
+    }
+    Refusal::CutHeader
+}
+
+// Checks 1 to 10.
+fn list(file: &[u8]) -> Listed
+    ensures { λ r. ⌜ r ≡ listedAs (now (file .entry)) (listing (now (file .entry))) ⌝ }
+{
+    match form::opening::open(file) {
+        Opened::Refused(r) => Listed::Refused(r),
+        Opened::Start(o) => {
+            let len = file.len() as u64;
+            if len < o.place {
+                return Listed::Refused(bare(len, o.place - 8));
             }
-            Survey::Accepted(Known {
+            match walk(file, o) {
+                Tallied::Refused(r) => Listed::Refused(r),
+                Tallied::Noted(n) => {
+                    let head = o.head;
+                    chunks(head, n)
+                }
+            }
+        }
+    }
+}
+
+// Checks 11 and 12.
+fn judge(file: &[u8], l: Listing) -> Examined
+    requires { ⌜ FmtFits l (now file) ⌝ }
+    ensures { λ r. ⌜ r ≡ judgeOf l (now (file .entry)) ⌝ }
+{
+    let fmt = l.fmt;
+    let audio = l.audio;
+    let a = fmt.place as usize;
+    let e = (fmt.place + fmt.size) as usize;
+    match fmt::read(&file[a..e]) {
+        Reading::Refused(r) => Examined::Refused(r),
+        Reading::Record(format) => {
+            if audio.size % format.block != 0 {
+                return Examined::Refused(Refusal::RaggedAudio);
+            }
+            let head = l.head;
+            let first = l.first;
+            let fact = l.fact;
+            Examined::Accepted(Accepted {
                 head,
-                tally,
+                first,
+                audio,
+                fact,
+                count: l.count,
                 format,
-                rows: l.rows,
             })
         }
     }
 }
 
 // The whole scan but for the table: what is known of an accepted file, or the refusal.
-pub fn examine(file: &[u8]) -> Survey
-    ensures { λ r. ⌜ r ≡ surveyOf (scan (now (file .entry))) ⌝ }
+pub fn examine(file: &[u8]) -> Examined
+    ensures { λ r. ⌜ r ≡ examinedAs (now (file .entry)) (scan (now (file .entry))) ⌝ }
 {
-    match form::opening::open(file) {
-        Opened::Refused(r) => Survey::Refused(r),
-        Opened::Head(head) => {
-            let l = list(file, head);
-            let v = l.verdict;
-            match v {
-                Verdict::Refused(r) => Survey::Refused(r),
-                Verdict::Accepted => judge(file, head, l),
-            }
-        }
-    }
-}
-
-// The sample count of a file whose fact payload starts at a place.
-pub fn fact_count(file: &[u8], head: Head, place: u64) -> Samples
-    requires { ⌜ place + 4 ≤ length (now file) ⌝ }
-    ensures { λ r. ⌜ r ≡ countAt head place (now (file .entry)) ⌝ }
-{
-    let own = le::read4(file, place as usize);
-    if own != chunk::ONES {
-        return Samples::Count(own);
-    }
-    let form = head.form;
-    match form {
-        Form::Rf64 => Samples::Count(head.ds64.third),
-        Form::Riff => Samples::Count(own),
-        Form::Bw64 => Samples::Count(own),
+    match list(file) {
+        Listed::Refused(r) => Examined::Refused(r),
+        Listed::Listing(l) => judge(file, l),
     }
 }

@@ -1,190 +1,106 @@
-// What the scan keeps of the chunks it passes: how often each name that matters was met, and where.
+// What the scan keeps of the chunks it passes: how often each name that check 10 asks for was met, and where.
 use chunk::Entry;
 use chunk::Name;
 ghost use mathlib.Core.Path.{_≡_};
-ghost use mathlib.Core.List.{[]};
-ghost use Rattle.wave.specs.Tallies.{meet, noted, tallyOf, metOnce, atMostOnce, factGood, placeOf, sizeOf, tallyGood};
+ghost use Rattle.wave.specs.Contracts.{noted, noTally, tallyGood, Small};
 
-// How often a name was met: never, once with the payload's place and size, or more often.
-pub enum Met {
-    Never,
-    Once(u64, u64),
-    More,
+// A chunk's payload: where it starts, and its true size.
+pub struct Payload {
+    pub place: u64,
+    pub size: u64,
 }
 
+// How many chunks of each name were met, and where the last was; zeros before the first. A fact below 4 bytes counts
+// twice, since two are refused as one such is.
 pub struct Tally {
-    pub fmt: Met,
-    pub audio: Met,
-    pub fact: Met,
-    pub bext: Met,
-    pub chna: Met,
-}
-
-// What was met of a chunk's name, after that chunk.
-fn once_more(m: Met, e: Entry) -> Met
-    ensures { λ r. ⌜ r ≡ meet m e ⌝ }
-{
-    match m {
-        Met::Never => Met::Once(e.place, e.size),
-        Met::Once(_, _) => Met::More,
-        Met::More => Met::More,
-    }
+    pub fmts: u64,
+    pub datas: u64,
+    pub facts: u64,
+    pub bexts: u64,
+    pub chnas: u64,
+    pub fmt: Payload,
+    pub audio: Payload,
+    pub fact: u64,
 }
 
 // Nothing met yet.
 pub fn none() -> Tally
-    ensures { λ r. ⌜ r ≡ tallyOf [] ⌝ }
+    ensures { λ r. ⌜ r ≡ noTally ⌝ }
 {
+    let nothing = Payload { place: 0, size: 0 };
     Tally {
-        fmt: Met::Never,
-        audio: Met::Never,
-        fact: Met::Never,
-        bext: Met::Never,
-        chna: Met::Never,
+        fmts: 0,
+        datas: 0,
+        facts: 0,
+        bexts: 0,
+        chnas: 0,
+        fmt: nothing,
+        audio: nothing,
+        fact: 0,
     }
 }
 
 // A tally after one chunk more. Most chunks have none of the five names.
 pub fn note(t: Tally, e: Entry) -> Tally
+    requires { ⌜ Small t ⌝ }
     ensures { λ r. ⌜ r ≡ noted t e ⌝ }
 {
+    let mut t = t;
     let name = e.name;
-    let fmt = t.fmt;
-    let audio = t.audio;
-    let fact = t.fact;
-    let bext = t.bext;
-    let chna = t.chna;
     if name == Name::FMT {
-        let fmt = once_more(fmt, e);
-        return Tally {
-            fmt,
-            audio,
-            fact,
-            bext,
-            chna,
+        let payload = Payload {
+            place: e.place,
+            size: e.size,
         };
+        t.fmts += 1;
+        t.fmt = payload;
+        return t;
     }
     if name == Name::DATA {
-        let audio = once_more(audio, e);
-        return Tally {
-            fmt,
-            audio,
-            fact,
-            bext,
-            chna,
+        let payload = Payload {
+            place: e.place,
+            size: e.size,
         };
+        t.datas += 1;
+        t.audio = payload;
+        return t;
     }
     if name == Name::FACT {
-        let fact = once_more(fact, e);
-        return Tally {
-            fmt,
-            audio,
-            fact,
-            bext,
-            chna,
-        };
+        t.facts += 1;
+        if e.size < 4 {
+            t.facts += 1;
+        }
+        t.fact = e.place;
+        return t;
     }
     if name == Name::BEXT {
-        let bext = once_more(bext, e);
-        return Tally {
-            fmt,
-            audio,
-            fact,
-            bext,
-            chna,
-        };
+        t.bexts += 1;
+        return t;
     }
     if name == Name::CHNA {
-        let chna = once_more(chna, e);
-        return Tally {
-            fmt,
-            audio,
-            fact,
-            bext,
-            chna,
-        };
+        t.chnas += 1;
     }
     t
-}
-
-// Whether a name was met exactly once.
-fn once(m: Met) -> bool
-    ensures { λ r. ⌜ r ≡ metOnce m ⌝ }
-{
-    match m {
-        Met::Never => false,
-        Met::Once(_, _) => true,
-        Met::More => false,
-    }
-}
-
-// Whether a name was met at most once.
-fn at_most_once(m: Met) -> bool
-    ensures { λ r. ⌜ r ≡ atMostOnce m ⌝ }
-{
-    match m {
-        Met::Never => true,
-        Met::Once(_, _) => true,
-        Met::More => false,
-    }
-}
-
-// Whether fact, where there is one, is alone and holds its 4 bytes.
-fn fact_good(m: Met) -> bool
-    ensures { λ r. ⌜ r ≡ factGood m ⌝ }
-{
-    match m {
-        Met::Never => true,
-        Met::Once(_, size) => 4 <= size,
-        Met::More => false,
-    }
-}
-
-// The place of a chunk that was met once, else 0.
-pub fn place_of(m: Met) -> u64
-    ensures { λ r. ⌜ r ≡ placeOf m ⌝ }
-{
-    match m {
-        Met::Never => 0,
-        Met::Once(place, _) => place,
-        Met::More => 0,
-    }
-}
-
-// The size of a chunk that was met once, else 0.
-pub fn size_of(m: Met) -> u64
-    ensures { λ r. ⌜ r ≡ sizeOf m ⌝ }
-{
-    match m {
-        Met::Never => 0,
-        Met::Once(_, size) => size,
-        Met::More => 0,
-    }
 }
 
 // Check 10.
 pub fn good(t: Tally) -> bool
     ensures { λ r. ⌜ r ≡ tallyGood t ⌝ }
 {
-    let fmt = t.fmt;
-    let audio = t.audio;
-    let fact = t.fact;
-    let bext = t.bext;
-    let chna = t.chna;
-    if !once(fmt) {
+    if t.fmts != 1 {
         return false;
     }
-    if !once(audio) {
+    if t.datas != 1 {
         return false;
     }
-    if place_of(audio) <= place_of(fmt) {
+    if t.audio.place <= t.fmt.place {
         return false;
     }
-    if !at_most_once(bext) {
+    if 1 < t.bexts {
         return false;
     }
-    if !at_most_once(chna) {
+    if 1 < t.chnas {
         return false;
     }
-    fact_good(fact)
+    t.facts <= 1
 }

@@ -16,14 +16,14 @@ use Rattle.chunk.specs.declared.Verdict.the-variants.{Accepted}
 use Rattle.chunk.specs.Refusals.{Answer, given}
 use Rattle.chunk.specs.Names.{FMT, DATA, BEXT, CHNA, DS64}
 use Rattle.chunk.specs.Fields.{ONES}
-use Rattle.chunk.specs.Tables.{count, find}
+use Rattle.chunk.specs.Tables.{LIMIT, find}
 use Rattle.chunk.specs.Walks.{Rule, ownSize}
 use Rattle.chunk.proofs.Checks.{given-inj, check-given, check-true, andThen-at, and-true, or-false}
 use Rattle.chunk.proofs.Laid.{Laid, done, laid-walk, own-given}
 use Rattle.form.specs.declared.Form.{Form}
 use Rattle.form.specs.declared.Form.the-variants.{Riff}
 use Rattle.form.specs.declared.Head.{Head}
-use Rattle.form.specs.Forms.{isWide}
+use Rattle.form.specs.Forms.{LEAST, isWide}
 use Rattle.form.specs.Sizes.{trueSize, entriesOf}
 use Rattle.form.proofs.Heads.{Opened, opened-32}
 use Rattle.form.proofs.Sizes.{true-own}
@@ -37,8 +37,8 @@ use Rattle.wave.specs.declared.Samples.the-variants as samples
 use Rattle.wave.specs.Scans.{payload, wholeBlocks, judged, Scan, scan, samplesOf, walkFrom, walk32}
 use Rattle.wave.proofs.Scanned.{scanned-scan}
 use Rattle.wave.proofs.Counts.{samples-none, samples-given}
-use Rattle.writer.specs.Files.{chunkWith, chunkBytes, optional, ownField, bodyBytes, formSizeFor, fileBytes, inputGood, sizesGood, fileOut}
-use Rattle.writer.specs.Parts.{chunkSize, optionalSize, fileSize}
+use Rattle.writer.specs.Files.{chunkWith, chunkBytes, optional, ownField, bodyBytes, formSizeFor, fileBytes, inputGood, sizesGood, fileOut, chunkSize, optionalSize}
+use Rattle.writer.specs.Contracts.{fileSize}
 use Rattle.writer.specs.WayBack.{entry, firstName, tableFor}
 use Rattle.writer.proofs.Inputs.{Good, good, chna-short}
 use Rattle.writer.proofs.Sizes.{format-length, form-size, file-length, zeroed-length}
@@ -72,9 +72,9 @@ out-fine form f b c a bs e =
 -- ---- what a rule of sizes has to know of a written file
 
 pub record Knows (form : Form) (n : ℕ) (rule : Rule) : Type 0 where
-  pub first : rule 12 (firstName form) 28 ≡ given 28
-  pub plain : (at name own : ℕ) → (name ≡ DS64 → ⊥) → (own ≡ ONES → ⊥) → rule at name own ≡ given own
-  pub audio : (at : ℕ) → rule at DATA (ownField form n) ≡ given n
+  pub first : rule 12 (firstName form) LEAST ≡ given (record { bytes = LEAST })
+  pub plain : (at name own : ℕ) → (name ≡ DS64 → ⊥) → (own ≡ ONES → ⊥) → rule at name own ≡ given (record { bytes = own })
+  pub audio : (at : ℕ) → rule at DATA (ownField form n) ≡ given (record { bytes = n })
 
 module _ (form : Form) (f : Format) (b c a : List ℕ) (w : Fine form f b c a) (small : length (fileBytes form f b c a) < 256 ^ 8) where
   abbrev pub s : List ℕ
@@ -155,7 +155,7 @@ module _ (form : Form) (f : Format) (b c a : List ℕ) (w : Fine form f b c a) (
   unfolding tableFor chunkSize
   laid rule k =
       let small-c : length c ≤ 41003 = chna-short f b c a (w .input) .most in
-      laid-next rule s 12 (firstName form) 28 _ _ _ 20 28 (opening-is .first) refl
+      laid-next rule s 12 (firstName form) LEAST _ _ _ 20 LEAST (opening-is .first) refl
       (first-length form (formSizeFor form f b c a) (length a) (length a / f .block)) (k .first)
       (laid-next rule s 48 FMT (length (formatBytes f)) _ _ _ 56 16 fmt-stands refl sixteen
       (ap (rule 48 FMT) sixteen ∙ k .plain 48 FMT 16 (λ e. omega arith) (λ e. omega arith))
@@ -257,7 +257,7 @@ module _ (form : Form) (f : Format) (b c a : List ℕ) (w : Fine form f b c a) (
   unfolding ownField
   own-knows r =
       record {
-        first = own-given 12 (firstName form) 28 (λ e. omega arith);
+        first = own-given 12 (firstName form) LEAST (λ e. omega arith);
         plain = λ at name own h k. own-given at name own k;
         audio = λ at.
             ap (ownSize at DATA) (ap (λ (x : Form). ownField x (length a)) r)
@@ -268,4 +268,4 @@ module _ (form : Form) (f : Format) (b c a : List ℕ) (w : Fine form f b c a) (
   unfolding walk32 walkFrom
   walk-whole r =
       ap (λ (x : Answer ℕ). walkFrom x s) (opened-32 s head head-opened)
-      ∙ laid-walk 64 (laid ownSize (own-knows r)) (omega (arith, facts-are .few))
+      ∙ laid-walk LIMIT (laid ownSize (own-knows r)) (omega (arith, facts-are .few))

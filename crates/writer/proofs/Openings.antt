@@ -17,13 +17,12 @@ use Rattle.chunk.proofs.Checks.{true-false}
 use Rattle.form.specs.declared.Form.{Form}
 use Rattle.form.specs.declared.Form.the-variants.{Riff, Rf64, Bw64}
 use Rattle.form.specs.declared.Head.{Head}
-use Rattle.form.specs.Forms.{nameOf, isWide, ds64At, noDs64, formSize}
-use Rattle.form.specs.Sizes.{Known, trueSize}
+use Rattle.form.specs.Forms.{LEAST, nameOf, isWide, ds64At, noDs64, formSize}
+use Rattle.form.specs.Sizes.{Ds64Entry, trueSize}
 use Rattle.form.proofs.Heads.{Opened, rules-ds64, head-wide, form-own, form-ones}
 use Rattle.form.proofs.Opens.{riff-finished}
 use Rattle.form.proofs.Sizes.{true-own, true-ds64, true-data}
-use Rattle.writer.specs.Files.{chunkWith, chunkBytes, firstChunk, ownField, openingBytes}
-use Rattle.writer.specs.Parts.{chunkSize}
+use Rattle.writer.specs.Files.{chunkWith, chunkBytes, firstChunk, ownField, openingBytes, chunkSize}
 use Rattle.writer.specs.WayBack.{firstName}
 use Rattle.writer.proofs.Sizes.{opening-length}
 use Rattle.writer.proofs.Places.{Stands, stands}
@@ -38,18 +37,18 @@ thirdOf Bw64 frames = 0
 
 -- the payload of the first chunk
 abbrev pub firstPayload : Form → ℕ → ℕ → ℕ → List ℕ
-firstPayload Riff size audio frames = replicate 28 0
+firstPayload Riff size audio frames = replicate LEAST 0
 firstPayload Rf64 size audio frames = bytes 8 size ++ (bytes 8 audio ++ (bytes 8 frames ++ bytes 4 0))
 firstPayload Bw64 size audio frames = bytes 8 size ++ (bytes 8 audio ++ (bytes 8 0 ++ bytes 4 0))
 
-pub first-length : (form : Form) (size audio frames : ℕ) → length (firstPayload form size audio frames) ≡ 28
+pub first-length : (form : Form) (size audio frames : ℕ) → length (firstPayload form size audio frames) ≡ LEAST
 unfolding bytes
 first-length Riff size audio frames = refl
 first-length Rf64 size audio frames = refl
 first-length Bw64 size audio frames = refl
 
 first-is : (form : Form) (size audio frames : ℕ)
-    → firstChunk form size audio frames ≡ chunkWith (firstName form) 28 (firstPayload form size audio frames)
+    → firstChunk form size audio frames ≡ chunkWith (firstName form) LEAST (firstPayload form size audio frames)
 unfolding firstChunk chunkBytes firstName bytes
 first-is Riff size audio frames = refl
 first-is Rf64 size audio frames = refl
@@ -79,7 +78,7 @@ pub record Opening (form : Form) (size audio frames : ℕ) (s body : List ℕ) :
   pub named : number 4 0 s ≡ nameOf form
   pub own : number 4 4 s ≡ ownField form size
   pub wave : number 4 8 s ≡ WAVE
-  pub first : Stands s 12 (firstName form) 28 (firstPayload form size audio frames) body
+  pub first : Stands s 12 (firstName form) LEAST (firstPayload form size audio frames) body
   pub rest : drop 48 s ≡ body
 
 pub opening : (form : Form) (size audio frames : ℕ) (s body : List ℕ) → (form ≡ Riff → size ≤ 4294967294)
@@ -87,7 +86,7 @@ pub opening : (form : Form) (size audio frames : ℕ) (s body : List ℕ) → (f
 unfolding openingBytes chunkSize
 opening form size audio frames s body h e =
     let own : ℕ = ownField form size in
-    let chunk : List ℕ = chunkWith (firstName form) 28 (firstPayload form size audio frames) in
+    let chunk : List ℕ = chunkWith (firstName form) LEAST (firstPayload form size audio frames) in
     let flat : bytes 4 (nameOf form) ++ (bytes 4 own ++ (bytes 4 WAVE ++ chunk)) ++ body
     ≡ bytes 4 (nameOf form) ++ (bytes 4 own ++ (bytes 4 WAVE ++ (chunk ++ body))) = simp append-assoc in
     let e₀ : drop 0 s ≡ bytes 4 (nameOf form) ++ (bytes 4 own ++ (bytes 4 WAVE ++ (chunk ++ body))) =
@@ -101,7 +100,7 @@ opening form size audio frames s body h e =
       named = number-at 4 0 (nameOf form) s (bytes 4 own ++ (bytes 4 WAVE ++ (chunk ++ body))) (name-bound form) e₀;
       own = number-at 4 4 own s (bytes 4 WAVE ++ (chunk ++ body)) (own-bound form size h) e₄;
       wave = number-at 4 8 WAVE s (chunk ++ body) (lit< tt) e₈;
-      first = stands s 12 (firstName form) 28 (firstPayload form size audio frames) body (first-bound form) (lit< tt) e₁₂;
+      first = stands s 12 (firstName form) LEAST (firstPayload form size audio frames) body (first-bound form) (lit< tt) e₁₂;
       rest = drop-past 48 0 s (openingBytes form size audio frames) body (opening-length form size audio frames) e;
     }
 
@@ -143,7 +142,7 @@ headFor Riff s = record { form = Riff; ds64 = noDs64 }
 headFor Rf64 s = record { form = Rf64; ds64 = ds64At s }
 headFor Bw64 s = record { form = Bw64; ds64 = ds64At s }
 
-module _ (size audio frames : ℕ) (s body : List ℕ) (whole : 8 + size ≡ length s) (long : 48 ≤ length s) where
+module _ (size audio frames : ℕ) (s body : List ℕ) (whole : 8 + size ≡ length s) (long : 20 + LEAST ≤ length s) where
   opened-wide : (form : Form) → isWide form ≡ true → ownField form size ≡ ONES → firstName form ≡ DS64 → number 8 20 s ≡ size
       → number 4 44 s ≡ 0 → Opening form size audio frames s body → Opened s (record { form = form; ds64 = ds64At s })
   unfolding ds64At
@@ -151,7 +150,7 @@ module _ (size audio frames : ℕ) (s body : List ℕ) (whole : 8 + size ≡ len
       let ones : number 4 4 s ≡ ONES = o .own ∙ own in
       let same : formSize (record { form = form; ds64 = ds64At s }) (number 4 4 s) ≡ size =
       ap (formSize (record { form = form; ds64 = ds64At s })) ones ∙ form-ones _ ∙ riff in
-      let sized : number 4 16 s ≡ 28 = o .first .owned in
+      let sized : number 4 16 s ≡ LEAST = o .first .owned in
       record {
         long = omega arith;
         named = o .named;
@@ -190,15 +189,15 @@ module _ (size audio frames : ℕ) (s body : List ℕ) (whole : 8 + size ≡ len
 
 -- ---- the sizes that the scan knows
 
-pub sized-first : (form : Form) (s : List ℕ) (ks : List Known) → trueSize (headFor form s) ks 12 (firstName form) 28 ≡ given 28
+pub sized-first : (form : Form) (s : List ℕ) (ks : List Ds64Entry) → trueSize (headFor form s) ks 12 (firstName form) LEAST ≡ given (record { bytes = LEAST })
 unfolding firstName isWide
-sized-first Riff s ks = true-own (headFor Riff s) ks 12 JUNK 28 (λ e. omega arith) (λ e. omega arith)
-sized-first Rf64 s ks = true-ds64 (headFor Rf64 s) ks 28 refl (λ e. omega arith)
-sized-first Bw64 s ks = true-ds64 (headFor Bw64 s) ks 28 refl (λ e. omega arith)
+sized-first Riff s ks = true-own (headFor Riff s) ks 12 JUNK LEAST (λ e. omega arith) (λ e. omega arith)
+sized-first Rf64 s ks = true-ds64 (headFor Rf64 s) ks LEAST refl (λ e. omega arith)
+sized-first Bw64 s ks = true-ds64 (headFor Bw64 s) ks LEAST refl (λ e. omega arith)
 
-pub sized-data : (form : Form) (s : List ℕ) (ks : List Known) (n at : ℕ) → (form ≡ Riff → n ≤ 4294967294)
-    → (isWide form ≡ true → number 8 28 s ≡ n) → trueSize (headFor form s) ks at DATA (ownField form n) ≡ given n
+pub sized-data : (form : Form) (s : List ℕ) (ks : List Ds64Entry) (n at : ℕ) → (form ≡ Riff → n ≤ 4294967294)
+    → (isWide form ≡ true → number 8 28 s ≡ n) → trueSize (headFor form s) ks at DATA (ownField form n) ≡ given (record { bytes = n })
 unfolding ownField isWide ds64At
 sized-data Riff s ks n at h k = let l = h refl in true-own (headFor Riff s) ks at DATA n (λ e. omega arith) (λ e. omega arith)
-sized-data Rf64 s ks n at h k = true-data (headFor Rf64 s) ks at refl ∙ ap given (k refl)
-sized-data Bw64 s ks n at h k = true-data (headFor Bw64 s) ks at refl ∙ ap given (k refl)
+sized-data Rf64 s ks n at h k = true-data (headFor Rf64 s) ks at refl ∙ ap (λ (m : ℕ). given (record { bytes = m })) (k refl)
+sized-data Bw64 s ks n at h k = true-data (headFor Bw64 s) ks at refl ∙ ap (λ (m : ℕ). given (record { bytes = m })) (k refl)

@@ -23,7 +23,7 @@ use Rattle.fmt.specs.Writing.{writable, formatBytes}
 use Rattle.chna.specs.Records.{padsZeroed}
 use Rattle.bext.proofs.Stores.{puts-front}
 use Rattle.writer.specs.Files.{chunkWith, chunkBytes, optional, ownField, openingBytes, bodyBytes, formSizeFor, fileBytes, inputGood, sizesGood, fileOut, Writes}
-use Rattle.writer.specs.Parts.{fileSize, Puts}
+use Rattle.writer.specs.Contracts.{fileSize, Puts}
 use Rattle.writer.proofs.Inputs.{good}
 use Rattle.writer.proofs.Sizes.{opening-length, fmt-length, form-size, file-length}
 use Rattle.writer.proofs.Stores.{file-put, puts-as}

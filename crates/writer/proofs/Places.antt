@@ -17,8 +17,7 @@ use Rattle.chunk.specs.Refusals.{given}
 use Rattle.chunk.specs.Walks.{Rule, past}
 use Rattle.chunk.proofs.Checks.{pick-true, pick-false}
 use Rattle.chunk.proofs.Laid.{Row, Laid, next}
-use Rattle.writer.specs.Files.{padOf, chunkWith, chunkBytes, optional}
-use Rattle.writer.specs.Parts.{chunkSize, optionalSize}
+use Rattle.writer.specs.Files.{padOf, chunkWith, chunkBytes, optional, chunkSize, optionalSize}
 use Rattle.writer.specs.WayBack.{entry, rowFor}
 use Rattle.writer.proofs.Sizes.{chunk-length, optional-some, optional-length, size-none, size-some}
 
@@ -53,7 +52,7 @@ stands s at name own p rest n o e =
     }
 
 row-of : {rule : Rule} {s : List ℕ} {at name own n : ℕ} {p rest : List ℕ} → Stands s at name own p rest → length p ≡ n
-    → rule at name own ≡ given n → Row rule s at (entry name (at + 8) n)
+    → rule at name own ≡ given (record { bytes = n }) → Row rule s at (entry name (at + 8) n)
 unfolding entry past chunkSize
 row-of {rule} {s} {at} {name} {own} {n} {p} {rest} w q h =
     record {
@@ -69,7 +68,7 @@ past-entry name at n = omega arith
 
 -- a chunk of this size, and the rows after it
 pub laid-next : (rule : Rule) (s : List ℕ) (at name own : ℕ) (p rest : List ℕ) (rows : List Entry) (place n : ℕ)
-    → Stands s at name own p rest → place ≡ at + 8 → length p ≡ n → rule at name own ≡ given n → Laid rule s (at + chunkSize n) rows
+    → Stands s at name own p rest → place ≡ at + 8 → length p ≡ n → rule at name own ≡ given (record { bytes = n }) → Laid rule s (at + chunkSize n) rows
     → Laid rule s at (entry name place n ∷ rows)
 laid-next rule s at name own p rest rows place n w e q h l =
     subst (λ (k : ℕ). Laid rule s at (entry name k n ∷ rows)) (sym e)
@@ -98,7 +97,7 @@ optional-stands s at name p rest n o h e =
 
 pub laid-optional : (rule : Rule) (s : List ℕ) (at name : ℕ) (p rest : List ℕ) (rows : List Entry) (place n : ℕ)
     → name < 256 ^ 4 → length p < 256 ^ 4 → drop at s ≡ optional name p ++ rest → place ≡ at + 8 → length p ≡ n
-    → rule at name n ≡ given n → Laid rule s (at + optionalSize n) rows → Laid rule s at (rowFor name place n ++ rows)
+    → rule at name n ≡ given (record { bytes = n }) → Laid rule s (at + optionalSize n) rows → Laid rule s at (rowFor name place n ++ rows)
 laid-optional rule s at name p rest rows place n x o e f q k l = go (eqb n 0) refl
   where
     go : (b : Bool) → eqb n 0 ≡ b → Laid rule s at (rowFor name place n ++ rows)

@@ -20,8 +20,8 @@ use Rattle.fmt.specs.Writing.{writable, formatBytes}
 use Rattle.fmt.proofs.Payloads.{payload-length, writable-true}
 use Rattle.chna.specs.Records.{padsOff, padsZeroed}
 use Rattle.chna.proofs.Pads.{pads-length}
-use Rattle.writer.specs.Files.{padOf, chunkWith, chunkBytes, optional, ownField, firstChunk, openingBytes, bodyBytes, formSizeFor, fileBytes}
-use Rattle.writer.specs.Parts.{chunkSize, optionalSize, fileSize}
+use Rattle.writer.specs.Files.{padOf, chunkWith, chunkBytes, optional, ownField, firstChunk, openingBytes, bodyBytes, formSizeFor, fileBytes, chunkSize, optionalSize}
+use Rattle.writer.specs.Contracts.{fileSize}
 
 pub chunk-length : (name own : ℕ) (p : List ℕ) → length (chunkWith name own p) ≡ chunkSize (length p)
 unfolding chunkWith chunkSize padOf

@@ -22,7 +22,7 @@ use Rattle.fmt.specs.Writing.{writable, formatOut, formatBytes}
 use Rattle.fmt.proofs.Payloads.{out-of}
 use Rattle.bext.proofs.Stores.{puts-next}
 use Rattle.writer.specs.Files.{padOf, chunkWith, chunkBytes}
-use Rattle.writer.specs.Parts.{Puts}
+use Rattle.writer.specs.Contracts.{Puts}
 
 -- ---- a part of an output
 

@@ -13,16 +13,17 @@ use Rattle.le.specs.Choice.{pick}
 use Rattle.chunk.specs.declared.Entry.{Entry}
 use Rattle.chunk.specs.Names.{FMT, DATA, FACT, BEXT, CHNA}
 use Rattle.chunk.specs.Tables.{count, find}
+use Rattle.form.specs.Forms.{LEAST}
 use Rattle.form.specs.declared.Form.{Form}
 use Rattle.form.specs.declared.Form.the-variants.{Riff, Rf64, Bw64}
 use Rattle.wave.proofs.Scanned.{Chunked}
-use Rattle.writer.specs.Parts.{optionalSize}
+use Rattle.writer.specs.Files.{optionalSize}
 use Rattle.writer.specs.WayBack.{entry, firstName, rowFor, tableFor}
 
 -- a table without bext where x, and without chna where y
 abbrev tableIf : Form → Bool → Bool → ℕ → ℕ → ℕ → ℕ → ℕ → ℕ → List Entry
 tableIf form x y p m q n r k =
-    entry (firstName form) 20 28
+    entry (firstName form) 20 LEAST
     ∷ (entry FMT 56 16
     ∷ (pick x [] (entry BEXT p m ∷ []) ++ (pick y [] (entry CHNA q n ∷ []) ++ (entry DATA r k ∷ []))))
 

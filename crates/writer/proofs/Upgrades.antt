@@ -32,8 +32,7 @@ use Rattle.upgrade.specs.Upgrades.{Patch, patch, halves, hasFact, frames, third
 use Rattle.upgrade.specs.Demand3.{targetForm}
 use Rattle.upgrade.proofs.Thirds.{third-frames, third-zero}
 use Rattle.upgrade.proofs.Outcomes.{upgrade-given}
-use Rattle.writer.specs.Files.{padOf, chunkWith, chunkBytes, optional, firstChunk, ownField, openingBytes, bodyBytes, formSizeFor, fileBytes, inputGood, sizesGood, fileOut}
-use Rattle.writer.specs.Parts.{optionalSize}
+use Rattle.writer.specs.Files.{padOf, chunkWith, chunkBytes, optional, firstChunk, ownField, openingBytes, bodyBytes, formSizeFor, fileBytes, inputGood, sizesGood, fileOut, optionalSize}
 use Rattle.writer.specs.WayBack.{entry, firstName, tableFor}
 use Rattle.writer.proofs.Sizes.{opening-length, fmt-length, optional-length, zeroed-length, form-size}
 use Rattle.writer.proofs.Openings.{thirdOf}

@@ -22,8 +22,8 @@ use Rattle.chna.proofs.RoundTrip.{pads-zeroed-reads}
 use Rattle.upgrade.specs.declared.Target.{Target}
 use Rattle.upgrade.specs.Upgrades.{upgraded}
 use Rattle.upgrade.specs.Demand3.{targetForm}
-use Rattle.writer.specs.Files.{fileBytes, fileOut, Writes}
-use Rattle.writer.specs.Parts.{chunkSize, fileSize}
+use Rattle.writer.specs.Files.{fileBytes, fileOut, Writes, chunkSize}
+use Rattle.writer.specs.Contracts.{fileSize}
 use Rattle.writer.specs.WayBack.{WayBack}
 use Rattle.writer.proofs.Inputs.{accepted-given}
 use Rattle.writer.proofs.Tables.{bext-absent, chna-absent}

@@ -16,7 +16,7 @@ use Rattle.chunk.specs.Names.{WAVE, DS64, JUNK, FMT, DATA, BEXT, CHNA}
 use Rattle.chunk.specs.Fields.{ONES}
 use Rattle.form.specs.declared.Form.{Form}
 use Rattle.form.specs.declared.Form.the-variants.{Riff, Rf64, Bw64}
-use Rattle.form.specs.Forms.{nameOf, isWide}
+use Rattle.form.specs.Forms.{nameOf, isWide, LEAST}
 use Rattle.fmt.specs.declared.Format.{Format}
 use Rattle.fmt.specs.Writing.{writable, formatBytes}
 use Rattle.bext.specs.Records.{bextIn}
@@ -41,12 +41,21 @@ unfoldable pub optional : ℕ → List ℕ → List ℕ
 unfolding pick
 optional name p = pick (eqb (length p) 0) [] (chunkBytes name p)
 
+-- the bytes of a chunk: header, payload and pad
+unfoldable pub chunkSize : ℕ → ℕ
+chunkSize n = 8 + n + n % 2
+
+-- none for an empty payload
+unfoldable pub optionalSize : ℕ → ℕ
+unfolding pick
+optionalSize n = pick (eqb n 0) 0 (chunkSize n)
+
 -- ---- the file
 
 -- "JUNK of 28 zero bytes (RIFF) or ds64 of 28 (others)": of the form size, the data size and the frames, and an entry count
 -- of 0; "RF64's third number is the frame count", BW64's is "zero when written"
 unfoldable pub firstChunk : Form → ℕ → ℕ → ℕ → List ℕ
-firstChunk Riff size audio frames = chunkBytes JUNK (replicate 28 0)
+firstChunk Riff size audio frames = chunkBytes JUNK (replicate LEAST 0)
 firstChunk Rf64 size audio frames = chunkBytes DS64 (bytes 8 size ++ (bytes 8 audio ++ (bytes 8 frames ++ bytes 4 0)))
 firstChunk Bw64 size audio frames = chunkBytes DS64 (bytes 8 size ++ (bytes 8 audio ++ (bytes 8 0 ++ bytes 4 0)))
 
@@ -68,9 +77,9 @@ bodyBytes form f b c a =
     chunkBytes FMT (formatBytes f)
     ++ (optional BEXT b ++ (optional CHNA (padsZeroed c) ++ chunkWith DATA (ownField form (length a)) a))
 
--- "True form size S must make 8 + S equal L": the opening has 48 bytes
+-- "True form size S must make 8 + S equal L": past byte 8 the opening has WAVE, a header and the least of ds64
 unfoldable pub formSizeFor : Form → Format → List ℕ → List ℕ → List ℕ → ℕ
-formSizeFor form f b c a = 40 + length (bodyBytes form f b c a)
+formSizeFor form f b c a = 12 + LEAST + length (bodyBytes form f b c a)
 
 unfoldable pub fileBytes : Form → Format → List ℕ → List ℕ → List ℕ → List ℕ
 fileBytes form f b c a =

@@ -1,4 +1,4 @@
 pub mod Files
-pub mod Parts
 pub mod WayBack
 pub mod Cases
+pub mod Contracts

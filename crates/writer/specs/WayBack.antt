@@ -14,6 +14,7 @@ use Rattle.chunk.specs.Names.{DS64, JUNK, FMT, DATA, BEXT, CHNA}
 use Rattle.chunk.specs.Tables.{count, find}
 use Rattle.form.specs.declared.Form.{Form}
 use Rattle.form.specs.declared.Form.the-variants.{Riff, Rf64, Bw64}
+use Rattle.form.specs.Forms.{LEAST}
 use Rattle.fmt.specs.declared.Format.{Format}
 use Rattle.fmt.specs.Formats.{formatIn}
 use Rattle.bext.specs.Records.{bextIn}
@@ -23,8 +24,7 @@ use Rattle.wave.specs.Scans.{Scan, scan, payload, samplesOf, walk32}
 use Rattle.upgrade.specs.declared.Target.{Target}
 use Rattle.upgrade.specs.Upgrades.{upgraded}
 use Rattle.upgrade.specs.Demand3.{targetForm}
-use Rattle.writer.specs.Files.{fileOut}
-use Rattle.writer.specs.Parts.{optionalSize}
+use Rattle.writer.specs.Files.{fileOut, optionalSize}
 
 -- ---- the table of a written file
 
@@ -44,7 +44,7 @@ rowFor name place size = pick (eqb size 0) [] (entry name place size ∷ [])
 -- "JUNK .. or ds64 .., then fmt, bext, chna, data", of the sizes of bext, chna and the audio
 unfoldable pub tableFor : Form → ℕ → ℕ → ℕ → List Entry
 tableFor form b c a =
-    entry (firstName form) 20 28
+    entry (firstName form) 20 LEAST
     ∷ (entry FMT 56 16
     ∷ (rowFor BEXT 80 b
     ++ (rowFor CHNA (80 + optionalSize b) c ++ (entry DATA (80 + optionalSize b + optionalSize c) a ∷ []))))
@@ -53,27 +53,27 @@ tableFor form b c a =
 
 -- Of the bytes bs that are written of a form, a format record f, the payloads b and c of bext and chna, and audio a:
 pub record WayBack (form : Form) (f : Format) (b c a bs : List ℕ) : Type 0 where
-  -- "the scan accepts exactly the written part, with the table JUNK or ds64, fmt, bext, chna, data at their places"
+  -- the scan accepts exactly the written part, with the table JUNK or ds64, fmt, bext, chna, data at their places
   pub scanned : Scan
   pub accepted : scan bs ≡ given scanned
   pub form-is : scanned .head .form ≡ form
   pub rows : scanned .rows ≡ tableFor form (length b) (length c) (length a)
   -- "Without bext and chna the file has 80 bytes plus audio and pad."
   pub long : length bs ≡ 80 + optionalSize (length b) + optionalSize (length c) + length a + length a % 2
-  -- "the fmt reader gives the record that was given"
+  -- the fmt reader gives the record that was given
   pub format : scanned .format ≡ f
   pub fmt : formatIn (payload (find FMT (scanned .rows)) bs) ≡ given f
-  -- "the bext payload is the given one", and its reader gives the same record
+  -- the bext payload is the given one, and its reader gives the same record
   pub bext : (length b ≡ 0 → ⊥) → payload (find BEXT (scanned .rows)) bs ≡ b
   pub bext-record : (length b ≡ 0 → ⊥) → bextIn (payload (find BEXT (scanned .rows)) bs) ≡ bextIn b
   pub no-bext : length b ≡ 0 → count BEXT (scanned .rows) ≡ 0
-  -- "the chna payload the given one but for the pads", and its reader gives the same record
+  -- the chna payload is the given one but for the pads, and its reader gives the same record
   pub chna : (length c ≡ 0 → ⊥) → payload (find CHNA (scanned .rows)) bs ≡ padsZeroed c
   pub chna-record : (length c ≡ 0 → ⊥) → chnaIn (f .channels) (payload (find CHNA (scanned .rows)) bs) ≡ chnaIn (f .channels) c
   pub no-chna : length c ≡ 0 → count CHNA (scanned .rows) ≡ 0
-  -- "the audio is the same bytes"
+  -- the audio is the same bytes
   pub audio : payload (find DATA (scanned .rows)) bs ≡ a
-  -- "the sample count is none"
+  -- the sample count is none
   pub samples : samplesOf bs ≡ samples.None
   -- "RF64's third number is the frame count"; BW64's is "zero when written"
   pub third : form ≡ Rf64 → number 8 36 bs ≡ length a / f .block

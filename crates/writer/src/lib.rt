@@ -6,6 +6,7 @@ use chunk::Name;
 use chunk::Refusal;
 use chunk::Written;
 use fmt::Format;
+use form::Ds64;
 use form::Form;
 ghost use mathlib.Core.Path.{_≡_};
 ghost use mathlib.Core.Bool.{true, _||_};
@@ -16,12 +17,12 @@ ghost use lib.Seq.{sets};
 ghost use lib.Dec.{eqb, leb};
 ghost use Rattle.le.specs.Number.{bytes};
 ghost use Rattle.chunk.specs.Names.{WAVE, BEXT, CHNA, FMT};
-ghost use Rattle.form.specs.Forms.{isWide};
+ghost use Rattle.form.specs.Forms.{isWide, LEAST};
 ghost use Rattle.fmt.specs.Writing.{writable, formatBytes};
 ghost use Rattle.bext.specs.Records.{bextIn};
 ghost use Rattle.chna.specs.Records.{chnaIn, padsZeroed};
-ghost use Rattle.writer.specs.Files.{padOf, chunkWith, chunkBytes, optional, ownField, openingBytes, firstChunk, fileBytes, formSizeFor, accepted, inputGood, Writes};
-ghost use Rattle.writer.specs.Parts.{chunkSize, optionalSize, fileSize, Puts, Ready};
+ghost use Rattle.writer.specs.Files.{padOf, chunkWith, chunkBytes, optional, ownField, openingBytes, fileBytes, formSizeFor, accepted, inputGood, Writes, chunkSize, optionalSize};
+ghost use Rattle.writer.specs.Contracts.{fileSize, Puts, Ready};
 
 // The largest size that a 32-bit field holds: all ones stands for none.
 const LARGEST: u64 = 0xffff_fffe;
@@ -206,14 +207,14 @@ fn put_fmt(format: Format, out: &mut [u8])
 
 // Stores the form's name and field, WAVE, and a first chunk of 28 bytes.
 fn put_first(name: u64, own: u64, first: u64, size: u64, audio: u64, third: u64, out: &mut [u8])
-    requires { ⌜ 48 ≤ length (now out) ⌝ }
+    requires { ⌜ 20 + LEAST ≤ length (now out) ⌝ }
     ensures { λ _. ⌜ now (out .exit) ≡ sets (now (out .entry)) 0 (bytes 4 name ++ (bytes 4 own ++ (bytes 4 WAVE ++ chunkBytes first (bytes 8 size ++ (bytes 8 audio ++ (bytes 8 third ++ bytes 4 0)))))) ⌝ }
 {
     le::store4(out, 0, name);
     le::store4(out, 4, own);
     le::store4(out, 8, Name::WAVE);
     le::store4(out, 12, first);
-    le::store4(out, 16, 28);
+    le::store4(out, 16, Ds64::LEAST);
     le::store8(out, 20, size);
     le::store8(out, 28, audio);
     le::store8(out, 36, third);
@@ -222,7 +223,7 @@ fn put_first(name: u64, own: u64, first: u64, size: u64, audio: u64, third: u64,
 
 // Stores all that stands ahead of fmt.
 fn put_opening(form: Form, size: u64, audio: u64, frames: u64, out: &mut [u8])
-    requires { ⌜ 48 ≤ length (now out) ⌝ }
+    requires { ⌜ 20 + LEAST ≤ length (now out) ⌝ }
     ensures { λ _. ⌜ now (out .exit) ≡ sets (now (out .entry)) 0 (openingBytes form size audio frames) ⌝ }
 {
     match form {

@@ -1,11 +1,10 @@
 -- `bext::date` meets its contract: all zero, or good, or neither.
 -- Assumes nothing.
 use mathlib.Core.Path.{_≡_, _∙_, sym, ap}
-use mathlib.Core.Bool.{Bool, true, false, _||_}
+use mathlib.Core.Bool.{true, false}
 use borrow.Author.Needs.{needs}
-use lib.ListN.{length}
-use Rattle.le.specs.Choice.{pick}
-use Rattle.bext.specs.Records.{partOf, allZero, dateGood, setOf}
+use Rattle.bext.specs.Contracts.{partOf}
+use Rattle.bext.specs.Records.{allZero, setOf}
 use Rattle.bext.specs.declared.Part.the-variants as part
 use Rattle.bext.proofs.date.Statement.{statement}
 use Rattle.bext.proofs.date.Tie as tie

@@ -3,7 +3,7 @@
 use mathlib.Core.Path.{_≡_, _∙_, ap, refl}
 use Prim.Native.Nat.{_≤_, _-_, _+_}
 use native.Mathlib.Omega.{arith}
-use lib.ListN.{length, set, take, getD, length-set}
+use lib.ListN.{length, set, take, getD}
 use lib.Seq.{sets, length-sets, take-all}
 use Rattle.bext.proofs.Stores.{put-more}
 use Rattle.bext.proofs.put.Statement.{statement}

@@ -1,6 +1,6 @@
 -- `bext::put_text` meets its contract: the zeros come behind the text.
 -- Assumes nothing.
-use mathlib.Core.Path.{_≡_, _∙_, ap, refl}
+use mathlib.Core.Path.{_∙_, ap, refl}
 use Prim.Native.Nat.{_+_, _-_}
 use lib.ListN.{length, replicate}
 use lib.Seq.{sets}

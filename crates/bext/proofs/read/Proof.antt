@@ -1,15 +1,15 @@
 -- `bext::read` meets its contract: each part that breaks its rule is 13, and where none does the record holds what each
 -- part said.
 -- Assumes nothing.
-use mathlib.Core.Path.{_≡_, _∙_, sym, ap}
+use mathlib.Core.Path.{_∙_, sym, ap}
 use mathlib.Core.Bool.{_||_}
 use borrow.Author.Needs.{needs}
-use borrow.Author.Tests.{lt-leb, le-leb, not-true, not-false}
+use borrow.Author.Tests.{lt-leb, not-true, not-false}
 use native.Mathlib.Nat.{le-trans}
 use native.Mathlib.Omega.{arith}
 use lib.ListN.{length, take, drop}
 use lib.Dec.{lit≤}
-use Rattle.le.specs.Number.{field, number}
+use Rattle.le.specs.Number.{field}
 use Rattle.le.proofs.Laws.{field-length}
 use Rattle.bext.specs.Records.{textGood, textOf, allZero, dateGood, timeGood, setOf, restGood, rulesOf}
 use Rattle.bext.proofs.Texts.{to-the-end}

@@ -1,8 +1,6 @@
 -- `bext::rest_good` meets its contract: Version decides whether the bytes are looked at.
 -- Assumes nothing.
-use mathlib.Core.Path.{_∙_}
 use borrow.Author.Tests.{eq-eqb, ne-eqb}
-use Rattle.le.specs.Choice.{pick}
 use Rattle.bext.specs.Records.{restGood}
 use borrow.Author.Needs.{needs}
 use Rattle.bext.proofs.rest_good.Statement.{statement}

@@ -1,15 +1,16 @@
 -- `bext::store` meets its contract: each part is put behind the parts before it, so that what has been put is a payload's
 -- front.
 -- Assumes nothing.
-use mathlib.Core.Path.{_≡_, _∙_, ap, refl, sym}
-use mathlib.Core.List.{List, _++_}
+use mathlib.Core.Path.{_≡_, _∙_, ap}
+use mathlib.Core.List.{List}
 use Prim.Native.Nat.{ℕ, _+_, _≤_}
 use native.Mathlib.Omega.{arith}
 use lib.ListN.{length}
 use lib.Seq.{sets, length-sets}
 use Rattle.le.specs.Number.{bytes, stored}
 use Rattle.bext.specs.Records.{Whole}
-use Rattle.bext.specs.Writing.{padded, laid, restOf, asked, Fitting}
+use Rattle.bext.specs.Writing.{padded, laid, restOf, asked}
+use Rattle.bext.specs.Contracts.{Fitting}
 use Rattle.bext.proofs.Stores.{puts-next, padded-rest, rest-short, front1, front2, front3, front4, front5, front6, front7, front8, length1, length2, length3, length4, length5, length6, length7, length8}
 use Rattle.bext.proofs.store.Statement.{statement}
 use Rattle.bext.proofs.store.Tie as tie

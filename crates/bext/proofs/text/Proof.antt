@@ -1,10 +1,10 @@
 -- `bext::text` meets its contract: the bytes past the text are zero, or not.
 -- Assumes nothing.
 use mathlib.Core.Path.{_≡_, _∙_, sym, ap}
-use Rattle.le.specs.Choice.{pick}
 use native.Mathlib.Omega.{arith}
 use lib.ListN.{drop}
-use Rattle.bext.specs.Records.{partOf, textGood, textOf, allZero}
+use Rattle.bext.specs.Contracts.{partOf}
+use Rattle.bext.specs.Records.{textGood, allZero}
 use Rattle.bext.proofs.Texts.{text-short}
 use borrow.Author.Needs.{needs}
 use Rattle.bext.proofs.text.Statement.{statement}

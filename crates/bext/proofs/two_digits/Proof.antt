@@ -1,13 +1,12 @@
 -- `bext::two_digits` meets its contract: two digits have a number below 100.
 -- Assumes nothing.
-use mathlib.Core.Path.{_≡_, _∙_, sym, ap}
-use mathlib.Core.Bool.{true, _&&_}
+use mathlib.Core.Path.{_≡_, _∙_, sym}
+use mathlib.Core.Bool.{true}
 use Prim.Native.Nat.{_+_}
 use borrow.Author.Needs.{needs}
 use borrow.Author.Tests.{le-leb, lt-leb, not-true, not-false}
 use native.Mathlib.Omega.{arith}
 use lib.ListN.{getD}
-use lib.Dec.{leb}
 use Rattle.bext.specs.Records.{isDigit}
 use Rattle.bext.proofs.Digits.{digit-low, digit-high, first-fails, second-fails, both-digits}
 use Rattle.bext.proofs.two_digits.Statement.{statement}

@@ -2,7 +2,6 @@
 -- its start.
 -- Assumes nothing.
 use mathlib.Core.Path.{_≡_, _∙_, ap, sym}
-use mathlib.Core.Bool.{Bool, true}
 use Prim.Native.Nat.{_+_, _^_, _≤_}
 use native.Mathlib.Omega.{arith}
 use borrow.Author.Needs.{needs}
@@ -10,7 +9,7 @@ use borrow.Author.Tests.{lt-ltb, not-true, not-false}
 use lib.ListN.{length}
 use Rattle.chunk.specs.declared.Written.the-variants as written
 use Rattle.bext.specs.Records.{Whole}
-use Rattle.bext.specs.Writing.{restOf, writable, asked, laid, Writes}
+use Rattle.bext.specs.Writing.{restOf, writable, asked, laid}
 use Rattle.bext.proofs.Stores.{puts-front, laid-length}
 use Rattle.bext.proofs.Outs.{good, good-fits, refuses, lacks-room, writes}
 use Rattle.bext.proofs.write.Statement.{statement}

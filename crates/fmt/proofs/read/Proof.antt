@@ -5,7 +5,7 @@ use borrow.Author.Needs.{needs}
 use borrow.Author.Tests.{not-true, not-false}
 use Rattle.fmt.specs.declared.Reading.the-variants as reading
 use Rattle.fmt.specs.Formats.{recordGood, readAs}
-use Rattle.fmt.proofs.Laws.{short, extra-bad, record-bad, accepted}
+use Rattle.fmt.proofs.Laws.{plain, short, extra-bad, record-bad, accepted}
 use Rattle.fmt.proofs.read.Statement.{statement}
 use Rattle.fmt.proofs.read.Tie as tie
 
@@ -23,8 +23,8 @@ returns-2 c = sym (ap readAs (extra-bad _ (sym (c .before .extra-good .ensures) 
 fields-requires : tie.Need-fields-requires
 fields-requires c κs = search needs
 
-record-good-requires : tie.Need-record-good-requires
-record-good-requires c κs = search needs
+read-good-requires : tie.Need-read-good-requires
+read-good-requires c κs = plain _ _ (c .fields .ensures)
 
 returns-3 : tie.Need-returns-3
 unfolding readAs
@@ -33,7 +33,7 @@ returns-3 c =
     (ap readAs
     (record-bad _
     (ap recordGood (sym (c .before .before .fields .ensures .is))
-    ∙ sym (c .before .record-good .ensures)
+    ∙ sym (c .before .read-good .ensures)
     ∙ not-true _ (c .if3 .taken))))
 
 returns-4 : tie.Need-returns-4
@@ -45,7 +45,7 @@ returns-4 c =
     (accepted _
     (sym (c .before .before .before .before .extra-good .ensures) ∙ not-false _ (c .before .before .before .if2 .left))
     (ap recordGood (sym (c .before .before .fields .ensures .is))
-    ∙ sym (c .before .record-good .ensures)
+    ∙ sym (c .before .read-good .ensures)
     ∙ not-false _ (c .if3 .left))))
 
 pub read-spec : {M : Type 1} → statement M
@@ -56,6 +56,6 @@ read-spec =
     extra-good-requires
     returns-2
     fields-requires
-    record-good-requires
+    read-good-requires
     returns-3
     returns-4)

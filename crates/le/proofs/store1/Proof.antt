@@ -3,8 +3,6 @@ use borrow.Author.Needs.{needs}
 use Rattle.le.specs.Number.{stored, bytes}
 use Rattle.le.proofs.store1.Statement.{statement}
 use Rattle.le.proofs.store1.Tie as tie
-use Rattle.le.proofs.store1.Reads as reads
-use Rattle.le.proofs.store1.Lts as lts
 
 -- src/lib.rt:53:13
 cast-s : tie.Need-cast-s

@@ -2,7 +2,6 @@
 -- Assumes nothing.
 use Prim.Native.Nat.{_≤_, _-_}
 use borrow.Author.Needs.{needs}
-use lib.ListN.{length}
 use Rattle.run_writer.proofs.rows.Statement.{statement}
 use Rattle.run_writer.proofs.rows.Tie as tie
 

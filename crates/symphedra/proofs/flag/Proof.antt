@@ -1,7 +1,7 @@
 -- `symphedra::flag` meets its contract: the flag is known.
 -- Assumes nothing.
-use mathlib.Core.Path.{refl, sym, _∙_, ap}
-use Rattle.symphedra.specs.Exports.{flagOf}
+use mathlib.Core.Path.{sym, ap}
+use Rattle.bext.specs.Records.{flagOf}
 use Rattle.symphedra.proofs.flag.Statement.{statement}
 use Rattle.symphedra.proofs.flag.Tie as tie
 

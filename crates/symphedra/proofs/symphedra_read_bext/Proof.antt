@@ -6,9 +6,8 @@ use Prim.Native.Nat.{ℕ}
 use native.Mathlib.Omega.{arith}
 use lib.ListN.{length-set}
 use lib.Seq.{sets}
-use Rattle.chunk.specs.Refusals.{verdictNumber}
 use Rattle.bext.specs.declared.Reading.{Reading}
-use Rattle.symphedra.specs.Exports.{bextVerdict, bextWords}
+use Rattle.bext.specs.Records.{bextNumber, bextValues}
 use Rattle.symphedra.proofs.Answered.{short, answered}
 use borrow.Author.Needs.{needs}
 use Rattle.symphedra.proofs.symphedra_read_bext.Statement.{statement}
@@ -87,24 +86,24 @@ same-length : tie.Need-same-length
 same-length c = search needs
 
 returns-2 : tie.Need-returns-2
-unfolding bextVerdict bextWords
+unfolding bextNumber bextValues
 returns-2 c =
     let e = sym (c .before .before .before .before .before .read .ensures) ∙ c .before .before .before .b .given .1 in
-    answered 8 _ _ _ _ _ (c .before .before .before .before .before .before .if1 .left) (sym (ap (λ (x : Reading). verdictNumber (bextVerdict x)) e))
+    answered 8 _ _ _ _ _ (c .before .before .before .before .before .before .if1 .left) (sym (ap bextNumber e))
     (ap₂ (λ (d e : ℕ). sets (c .before .before .before .before .before .before .before .before .before .args .out .now) 0
     ((c .before .before .before .b .given .0 .0 .description) ∷ (c .before .before .before .b .given .0 .0 .originator) ∷ (c .before .before .before .b .given .0 .0 .reference) ∷ d ∷ e ∷ (c .before .before .before .b .given .0 .0 .timeref) ∷ (c .before .before .before .b .given .0 .0 .version) ∷ (c .before .before .before .b .given .0 .0 .history) ∷ []))
     (c .before .flag .ensures) (c .flag2 .ensures)
-    ∙ sym (ap (λ (x : Reading). sets (c .before .before .before .before .before .before .before .before .before .args .out .now) 0 (bextWords x)) e))
+    ∙ sym (ap (λ (x : Reading). sets (c .before .before .before .before .before .before .before .before .before .args .out .now) 0 (bextValues x)) e))
 
 same-length-2 : tie.Need-same-length-2
 same-length-2 c = search needs
 
 returns-3 : tie.Need-returns-3
-unfolding bextVerdict bextWords
+unfolding bextNumber bextValues
 returns-3 c =
     let e = sym (c .before .before .before .before .read .ensures) ∙ c .before .before .r .given .1 in
-    answered 8 _ _ _ _ _ (c .before .before .before .before .before .if1 .left) (c .number .ensures ∙ sym (ap (λ (x : Reading). verdictNumber (bextVerdict x)) e))
-    (sym (ap (λ (x : Reading). sets (c .before .before .before .before .before .before .before .before .args .out .now) 0 (bextWords x)) e))
+    answered 8 _ _ _ _ _ (c .before .before .before .before .before .if1 .left) (c .number .ensures ∙ sym (ap bextNumber e))
+    (sym (ap (λ (x : Reading). sets (c .before .before .before .before .before .before .before .before .args .out .now) 0 (bextValues x)) e))
 
 pub symphedra-read-bext-spec : {M : Type 1} → statement M
 symphedra-read-bext-spec =

@@ -1,12 +1,11 @@
 -- `symphedra::symphedra_read_chna` meets its contract: in each arm the answer is known.
 -- Assumes nothing.
-use mathlib.Core.Path.{refl, sym, _∙_, ap}
+use mathlib.Core.Path.{sym, _∙_, ap}
 use native.Mathlib.Omega.{arith}
 use lib.ListN.{length-set}
 use lib.Seq.{sets}
-use Rattle.chunk.specs.Refusals.{verdictNumber}
 use Rattle.chna.specs.declared.Reading.{Reading}
-use Rattle.symphedra.specs.Exports.{chnaVerdict, chnaWords}
+use Rattle.chna.specs.Records.{chnaNumber, chnaValues}
 use Rattle.symphedra.proofs.Answered.{short, answered}
 use borrow.Author.Needs.{needs}
 use Rattle.symphedra.proofs.symphedra_read_chna.Statement.{statement}
@@ -49,21 +48,21 @@ same-length : tie.Need-same-length
 same-length c = search needs
 
 returns-2 : tie.Need-returns-2
-unfolding chnaVerdict chnaWords
+unfolding chnaNumber chnaValues
 returns-2 c =
     let e = sym (c .before .before .before .read .ensures) ∙ c .before .c .given .1 in
-    answered 3 _ _ _ _ _ (c .before .before .before .before .if1 .left) (sym (ap (λ (x : Reading). verdictNumber (chnaVerdict x)) e))
-    (sym (ap (λ (x : Reading). sets (c .before .before .before .before .before .before .before .args .out .now) 0 (chnaWords x)) e))
+    answered 3 _ _ _ _ _ (c .before .before .before .before .if1 .left) (sym (ap chnaNumber e))
+    (sym (ap (λ (x : Reading). sets (c .before .before .before .before .before .before .before .args .out .now) 0 (chnaValues x)) e))
 
 same-length-2 : tie.Need-same-length-2
 same-length-2 c = search needs
 
 returns-3 : tie.Need-returns-3
-unfolding chnaVerdict chnaWords
+unfolding chnaNumber chnaValues
 returns-3 c =
     let e = sym (c .before .before .before .before .read .ensures) ∙ c .before .before .r .given .1 in
-    answered 3 _ _ _ _ _ (c .before .before .before .before .before .if1 .left) (c .number .ensures ∙ sym (ap (λ (x : Reading). verdictNumber (chnaVerdict x)) e))
-    (sym (ap (λ (x : Reading). sets (c .before .before .before .before .before .before .before .before .args .out .now) 0 (chnaWords x)) e))
+    answered 3 _ _ _ _ _ (c .before .before .before .before .before .if1 .left) (c .number .ensures ∙ sym (ap chnaNumber e))
+    (sym (ap (λ (x : Reading). sets (c .before .before .before .before .before .before .before .before .args .out .now) 0 (chnaValues x)) e))
 
 pub symphedra-read-chna-spec : {M : Type 1} → statement M
 symphedra-read-chna-spec =

@@ -1,12 +1,11 @@
 -- `symphedra::symphedra_read_fmt` meets its contract: in each arm the answer is known.
 -- Assumes nothing.
-use mathlib.Core.Path.{refl, sym, _∙_, ap}
+use mathlib.Core.Path.{sym, _∙_, ap}
 use native.Mathlib.Omega.{arith}
 use lib.ListN.{length-set}
 use lib.Seq.{sets}
-use Rattle.chunk.specs.Refusals.{verdictNumber}
 use Rattle.fmt.specs.declared.Reading.{Reading}
-use Rattle.symphedra.specs.Exports.{fmtVerdict, fmtWords}
+use Rattle.fmt.specs.Formats.{fmtNumber, fmtValues}
 use Rattle.symphedra.proofs.Answered.{short, answered}
 use borrow.Author.Needs.{needs}
 use Rattle.symphedra.proofs.symphedra_read_fmt.Statement.{statement}
@@ -85,21 +84,21 @@ same-length : tie.Need-same-length
 same-length c = search needs
 
 returns-2 : tie.Need-returns-2
-unfolding fmtVerdict fmtWords
+unfolding fmtNumber fmtValues
 returns-2 c =
     let e = sym (c .before .before .before .read .ensures) ∙ c .before .f .given .1 in
-    answered 9 _ _ _ _ _ (c .before .before .before .before .if1 .left) (sym (ap (λ (x : Reading). verdictNumber (fmtVerdict x)) e))
-    (sym (ap (λ (x : Reading). sets (c .before .before .before .before .before .before .before .args .«record» .now) 0 (fmtWords x)) e))
+    answered 9 _ _ _ _ _ (c .before .before .before .before .if1 .left) (sym (ap fmtNumber e))
+    (sym (ap (λ (x : Reading). sets (c .before .before .before .before .before .before .before .args .«record» .now) 0 (fmtValues x)) e))
 
 same-length-2 : tie.Need-same-length-2
 same-length-2 c = search needs
 
 returns-3 : tie.Need-returns-3
-unfolding fmtVerdict fmtWords
+unfolding fmtNumber fmtValues
 returns-3 c =
     let e = sym (c .before .before .before .before .read .ensures) ∙ c .before .before .r .given .1 in
-    answered 9 _ _ _ _ _ (c .before .before .before .before .before .if1 .left) (c .number .ensures ∙ sym (ap (λ (x : Reading). verdictNumber (fmtVerdict x)) e))
-    (sym (ap (λ (x : Reading). sets (c .before .before .before .before .before .before .before .before .args .«record» .now) 0 (fmtWords x)) e))
+    answered 9 _ _ _ _ _ (c .before .before .before .before .before .if1 .left) (c .number .ensures ∙ sym (ap fmtNumber e))
+    (sym (ap (λ (x : Reading). sets (c .before .before .before .before .before .before .before .before .args .«record» .now) 0 (fmtValues x)) e))
 
 pub symphedra-read-fmt-spec : {M : Type 1} → statement M
 symphedra-read-fmt-spec =

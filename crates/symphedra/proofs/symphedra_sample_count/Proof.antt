@@ -1,12 +1,9 @@
 -- `symphedra::symphedra_sample_count` meets its contract: in each arm the answer is known.
 -- Assumes nothing.
-use mathlib.Core.Path.{refl, sym, _∙_, ap}
-use native.Mathlib.Omega.{arith}
-use lib.ListN.{length-set}
+use mathlib.Core.Path.{sym, _∙_, ap}
 use lib.Seq.{sets}
-use Rattle.chunk.specs.Refusals.{verdictNumber}
 use Rattle.wave.specs.declared.Samples.{Samples}
-use Rattle.symphedra.specs.Exports.{samplesVerdict, samplesWords}
+use Rattle.wave.specs.Scans.{samplesNumber, samplesValues}
 use Rattle.symphedra.proofs.Answered.{short, answered}
 use borrow.Author.Needs.{needs}
 use Rattle.symphedra.proofs.symphedra_sample_count.Statement.{statement}
@@ -52,31 +49,31 @@ same-length : tie.Need-same-length
 same-length c = search needs
 
 returns-2 : tie.Need-returns-2
-unfolding samplesVerdict samplesWords
+unfolding samplesNumber samplesValues
 returns-2 c =
     let e = sym (c .before .before .before .sample-count .ensures) ∙ c .before .n .given .1 in
-    answered 2 _ _ _ _ _ (c .before .before .before .before .if1 .left) (sym (ap (λ (x : Samples). verdictNumber (samplesVerdict x)) e))
-    (sym (ap (λ (x : Samples). sets (c .before .before .before .before .before .before .before .args .out .now) 0 (samplesWords x)) e))
+    answered 2 _ _ _ _ _ (c .before .before .before .before .if1 .left) (sym (ap samplesNumber e))
+    (sym (ap (λ (x : Samples). sets (c .before .before .before .before .before .before .before .args .out .now) 0 (samplesValues x)) e))
 
 same-length-2 : tie.Need-same-length-2
 same-length-2 c = search needs
 
 returns-3 : tie.Need-returns-3
-unfolding samplesVerdict samplesWords
+unfolding samplesNumber samplesValues
 returns-3 c =
     let e = sym (c .before .before .sample-count .ensures) ∙ c .enum-told .given .1 in
-    answered 2 _ _ _ _ _ (c .before .before .before .if1 .left) (sym (ap (λ (x : Samples). verdictNumber (samplesVerdict x)) e))
-    (sym (ap (λ (x : Samples). sets (c .before .before .before .before .before .before .args .out .now) 0 (samplesWords x)) e))
+    answered 2 _ _ _ _ _ (c .before .before .before .if1 .left) (sym (ap samplesNumber e))
+    (sym (ap (λ (x : Samples). sets (c .before .before .before .before .before .before .args .out .now) 0 (samplesValues x)) e))
 
 same-length-3 : tie.Need-same-length-3
 same-length-3 c = search needs
 
 returns-4 : tie.Need-returns-4
-unfolding samplesVerdict samplesWords
+unfolding samplesNumber samplesValues
 returns-4 c =
     let e = sym (c .before .before .before .before .sample-count .ensures) ∙ c .before .before .r .given .1 in
-    answered 2 _ _ _ _ _ (c .before .before .before .before .before .if1 .left) (c .number .ensures ∙ sym (ap (λ (x : Samples). verdictNumber (samplesVerdict x)) e))
-    (sym (ap (λ (x : Samples). sets (c .before .before .before .before .before .before .before .before .args .out .now) 0 (samplesWords x)) e))
+    answered 2 _ _ _ _ _ (c .before .before .before .before .before .if1 .left) (c .number .ensures ∙ sym (ap samplesNumber e))
+    (sym (ap (λ (x : Samples). sets (c .before .before .before .before .before .before .before .before .args .out .now) 0 (samplesValues x)) e))
 
 pub symphedra-sample-count-spec : {M : Type 1} → statement M
 symphedra-sample-count-spec =

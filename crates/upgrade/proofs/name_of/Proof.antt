@@ -1,6 +1,6 @@
 -- `upgrade::name_of` meets its contract: in each arm the target is known.
 -- Assumes nothing.
-use mathlib.Core.Path.{sym, _∙_, ap}
+use mathlib.Core.Path.{sym, ap}
 use Rattle.upgrade.specs.Upgrades.{targetName}
 use borrow.Author.Needs.{needs}
 use Rattle.upgrade.proofs.name_of.Statement.{statement}

@@ -35,7 +35,7 @@ returns c =
     ∙ ap (stored 4 44 0)
     (c .before .before .before .before .before .before .before .before .before .before .store83 .ensures
     ∙ ap (stored 8 36 (a .third)) (c .before .before .before .before .before .before .before .before .before .before .before .before .before .before .store82 .ensures ∙ ap (stored 8 28 (a .audio)) (c .before .before .before .before .before .before .before .before .before .before .before .before .before .before .before .before .before .before .store8 .ensures))))
-    ∙ sym (ds64-made (a .riff) (a .audio) (a .third) (a .file .now))
+    ∙ sym (ds64-made (a .form) (a .audio) (a .third) (a .file .now))
 
 pub store-ds64-spec : {M : Type 1} → statement M
 store-ds64-spec =

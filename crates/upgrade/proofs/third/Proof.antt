@@ -1,11 +1,12 @@
 -- `upgrade::third` meets its contract: in each arm the target and fact are known.
 -- Assumes nothing.
-use mathlib.Core.Path.{sym, _∙_, ap}
-use Rattle.wave.specs.declared.tally.Met.{Met}
-use Rattle.upgrade.specs.declared.Target.{Target}
-use Rattle.upgrade.specs.Words.{thirdAs, thirdOf}
-use Rattle.upgrade.proofs.Makes.{fact-within, known-block}
+use mathlib.Core.Path.{refl, sym, _∙_, ap}
+use native.Mathlib.Omega.{arith}
 use borrow.Author.Needs.{needs}
+use Rattle.wave.specs.declared.listing.Fact.{Fact}
+use Rattle.upgrade.specs.declared.Target.{Target}
+use Rattle.upgrade.specs.Contracts.{thirdAs, thirdOf}
+use Rattle.upgrade.proofs.Makes.{fact-within, known-block}
 use Rattle.upgrade.proofs.third.Statement.{statement}
 use Rattle.upgrade.proofs.third.Tie as tie
 
@@ -19,19 +20,13 @@ enum-known-fact : tie.Need-enum-known-fact
 enum-known-fact c = search needs
 
 read4-requires : tie.Need-read4-requires
-read4-requires c κs = fact-within _ _ (c .before .before .before .before .before .before .before .pre) _ _ (c .before .fact .given .1)
+read4-requires c κs = fact-within _ _ (c .before .before .before .before .before .before .before .pre) _ (c .before .fact .given .1)
 
 enum-told-3 : tie.Need-enum-told-3
 enum-told-3 c = search needs
 
-frames-requires : tie.Need-frames-requires
-frames-requires c κs = known-block _ _ (c .before .before .before .before .before .before .pre)
-
-enum-told-4 : tie.Need-enum-told-4
-enum-told-4 c = search needs
-
-frames-requires-2 : tie.Need-frames-requires-2
-frames-requires-2 c κs = known-block _ _ (c .before .before .before .before .before .before .pre)
+div-result : tie.Need-div-result
+div-result c = let k = known-block _ _ (c .before .before .before .before .before .before .before .before .pre) in omega (arith, k)
 
 returns : tie.Need-returns
 unfolding thirdOf
@@ -39,15 +34,17 @@ returns c = sym (ap (λ (t : Target). thirdOf t (c .before .before .before .befo
 
 returns-2 : tie.Need-returns-2
 unfolding thirdOf thirdAs
-returns-2 c = c .read4 .ensures .is ∙ sym (ap (λ (t : Target). thirdOf t (c .before .before .before .before .before .before .before .before .args .a) (c .before .before .before .before .before .before .before .before .args .file .now)) (c .before .before .before .before .enum-told2 .given .1) ∙ ap (λ (m : Met). thirdAs m (c .before .before .before .before .before .before .before .before .args .a) (c .before .before .before .before .before .before .before .before .args .file .now)) (c .before .before .fact .given .1))
+returns-2 c =
+    c .read4 .ensures .is
+    ∙ sym (ap (λ (t : Target). thirdOf t (c .before .before .before .before .before .before .before .before .args .a) (c .before .before .before .before .before .before .before .before .args .file .now)) (c .before .before .before .before .enum-told2 .given .1)
+    ∙ ap (λ (m : Fact). thirdAs m (c .before .before .before .before .before .before .before .before .args .a) (c .before .before .before .before .before .before .before .before .args .file .now)) (c .before .before .fact .given .1))
 
 returns-3 : tie.Need-returns-3
 unfolding thirdOf thirdAs
-returns-3 c = c .frames .ensures ∙ sym (ap (λ (t : Target). thirdOf t (c .before .before .before .before .before .before .before .args .a) (c .before .before .before .before .before .before .before .args .file .now)) (c .before .before .before .enum-told2 .given .1) ∙ ap (λ (m : Met). thirdAs m (c .before .before .before .before .before .before .before .args .a) (c .before .before .before .before .before .before .before .args .file .now)) (c .before .enum-told3 .given .1))
-
-returns-4 : tie.Need-returns-4
-unfolding thirdOf thirdAs
-returns-4 c = c .frames2 .ensures ∙ sym (ap (λ (t : Target). thirdOf t (c .before .before .before .before .before .before .before .args .a) (c .before .before .before .before .before .before .before .args .file .now)) (c .before .before .before .enum-told2 .given .1) ∙ ap (λ (m : Met). thirdAs m (c .before .before .before .before .before .before .before .args .a) (c .before .before .before .before .before .before .before .args .file .now)) (c .before .enum-told4 .given .1))
+returns-3 c =
+    refl
+    ∙ sym (ap (λ (t : Target). thirdOf t (c .before .before .before .before .before .before .before .before .args .a) (c .before .before .before .before .before .before .before .before .args .file .now)) (c .before .before .before .before .enum-told2 .given .1)
+    ∙ ap (λ (m : Fact). thirdAs m (c .before .before .before .before .before .before .before .before .args .a) (c .before .before .before .before .before .before .before .before .args .file .now)) (c .before .before .enum-told3 .given .1))
 
 pub third-spec : {M : Type 1} → statement M
 third-spec =
@@ -58,10 +55,7 @@ third-spec =
     enum-known-fact
     read4-requires
     enum-told-3
-    frames-requires
-    enum-told-4
-    frames-requires-2
+    div-result
     returns
     returns-2
-    returns-3
-    returns-4)
+    returns-3)

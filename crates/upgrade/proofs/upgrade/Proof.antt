@@ -1,9 +1,12 @@
--- `upgrade::upgrade` meets its contract: the scan's refusal, or what is made of an accepted file.
+-- `upgrade::upgrade` meets its contract: the scan's refusal, or what is made of an accepted file; demand 3 follows.
 -- Assumes nothing.
 use mathlib.Core.Path.{sym, _∙_}
-use Rattle.wave.proofs.Ends.{survey-refused, survey-accepted}
-use Rattle.upgrade.proofs.Makes.{done-refused}
+use native.Mathlib.Omega.{arith}
 use borrow.Author.Needs.{needs}
+use Rattle.le.specs.Number.{Bytes}
+use Rattle.wave.proofs.Listings.{examined-refused, examined-accepted}
+use Rattle.upgrade.proofs.Makes.{done-refused}
+use Rattle.upgrade.proofs.ForTheCode.{keeps}
 use Rattle.upgrade.proofs.upgrade.Statement.{statement}
 use Rattle.upgrade.proofs.upgrade.Tie as tie
 
@@ -18,20 +21,26 @@ enum-known-a c = search needs
 
 convert-requires : tie.Need-convert-requires
 convert-requires c κs =
-    let k = survey-accepted _ _ (sym (c .before .before .before .before .examine .ensures) ∙ c .before .before .a .given .1) in
+    let k = examined-accepted _ _ _ (sym (c .before .before .before .before .examine .ensures) ∙ c .before .before .a .given .1) in
     record { scanned = k .scan; is = k .is; known = k .known }
 
 same-length : tie.Need-same-length
 same-length c = search needs
 
 returns : tie.Need-returns
-returns c = done-refused _ _ _ (survey-refused _ _ (sym (c .before .before .before .examine .ensures) ∙ c .before .r .given .1))
+unfolding Bytes
+returns c =
+    let d = done-refused _ _ _ (examined-refused _ _ _ (sym (c .before .before .before .examine .ensures) ∙ c .before .r .given .1)) in
+    (d, keeps _ _ _ _ (λ n. omega (arith, c .before .before .before .before .before .slice-known .given n)) d)
 
 same-length-2 : tie.Need-same-length-2
 same-length-2 c = search needs
 
 returns-2 : tie.Need-returns-2
-returns-2 c = search needs
+unfolding Bytes
+returns-2 c =
+    let d = c .before .before .convert .ensures in
+    (d, keeps _ _ _ _ (λ n. omega (arith, c .before .before .before .before .before .before .before .before .before .slice-known .given n)) d)
 
 pub upgrade-spec : {M : Type 1} → statement M
 upgrade-spec =

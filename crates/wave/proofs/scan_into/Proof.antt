@@ -1,12 +1,9 @@
 -- `wave::scan_into` meets its contract: a law for each way that it ends.
 -- Assumes nothing.
-use mathlib.Core.Path.{sym, _∙_, ap}
-use native.Mathlib.Omega.{arith}
-use lib.ListN.{length-set}
-use Rattle.wave.specs.declared.listing.Known.{Known}
-use Rattle.wave.proofs.Ends.{survey-refused, survey-accepted, known-head, scan-short, scan-refused, scan-accepted}
-use Rattle.wave.proofs.Surveys.{head-long, entries-fit}
+use mathlib.Core.Path.{sym, _∙_}
 use borrow.Author.Needs.{needs}
+use Rattle.wave.proofs.Ends.{accepted-fills, scan-short, scan-refused, scan-accepted}
+use Rattle.wave.proofs.Listings.{examined-refused, examined-accepted}
 use Rattle.wave.proofs.scan_into.Statement.{statement}
 use Rattle.wave.proofs.scan_into.Tie as tie
 
@@ -20,30 +17,29 @@ enum-known-r : tie.Need-enum-known-r
 enum-known-r c = search needs
 
 slice-write-words : tie.Need-slice-write-words
-slice-write-words c = omega arith
+slice-write-words c = search needs
 
 enum-known-a : tie.Need-enum-known-a
 enum-known-a c = search needs
 
-list-rows-requires : tie.Need-list-rows-requires
-list-rows-requires c κs =
-    let k = survey-accepted _ _ (sym (c .before .before .before .before .before .examine .ensures) ∙ c .before .before .before .a .given .1) in
-    let h = known-head _ _ _ (k .is) (ap (λ (x : Known). x .head) (k .known)) in
-    (head-long _ _ h, c .before .before .before .before .before .before .if1 .left, entries-fit _ _ h)
+fill-requires : tie.Need-fill-requires
+fill-requires c κs =
+    let k = examined-accepted _ _ _ (sym (c .before .before .before .before .before .examine .ensures) ∙ c .before .before .before .a .given .1) in
+    accepted-fills _ _ _ _ (k .scan) (c .before .before .before .before .before .before .if1 .left) (k .is) (k .head) (k .count)
 
 same-length : tie.Need-same-length
-same-length c = simp length-set
+same-length c = search needs
 
 returns-2 : tie.Need-returns-2
-returns-2 c = scan-refused _ _ _ (c .before .before .before .before .if1 .left) (survey-refused _ _ (sym (c .before .before .before .examine .ensures) ∙ c .before .r .given .1))
+returns-2 c = scan-refused _ _ _ (c .before .before .before .before .if1 .left) (examined-refused _ _ _ (sym (c .before .before .before .examine .ensures) ∙ c .before .r .given .1))
 
 same-length-2 : tie.Need-same-length-2
 same-length-2 c = search needs
 
 returns-3 : tie.Need-returns-3
 returns-3 c =
-    let k = survey-accepted _ _ (sym (c .before .before .before .before .before .before .before .before .examine .ensures) ∙ c .before .before .before .before .before .before .a .given .1) in
-    scan-accepted _ _ _ (k .scan) _ _ (c .before .before .before .before .before .before .before .before .before .if1 .left) (k .is) (ap (λ (x : Known). x .head) (k .known)) (c .before .before .list-rows .ensures)
+    let k = examined-accepted _ _ _ (sym (c .before .before .before .before .before .before .before .before .examine .ensures) ∙ c .before .before .before .before .before .before .a .given .1) in
+    scan-accepted _ _ _ (k .scan) _ (c .before .before .before .before .before .before .before .before .before .if1 .left) (k .is) (k .head) (c .before .before .fill .ensures)
 
 pub scan-into-spec : {M : Type 1} → statement M
 scan-into-spec =
@@ -54,7 +50,7 @@ scan-into-spec =
     enum-known-r
     slice-write-words
     enum-known-a
-    list-rows-requires
+    fill-requires
     same-length
     returns-2
     same-length-2

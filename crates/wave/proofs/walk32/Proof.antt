@@ -1,9 +1,12 @@
--- `wave::walk32` meets its contract: the walk into words that are all zero.
+-- `wave::walk32` meets its contract: the walk into the words of the table of no chunks.
 -- Assumes nothing.
-use Rattle.wave.proofs.Ends.{walk-value}
 use borrow.Author.Needs.{needs}
+use Rattle.wave.proofs.Ends.{walk-value}
 use Rattle.wave.proofs.walk32.Statement.{statement}
 use Rattle.wave.proofs.walk32.Tie as tie
+
+empty-requires : tie.Need-empty-requires
+empty-requires c κs = search needs
 
 slice-aggregate-walk32-into : tie.Need-slice-aggregate-walk32-into
 slice-aggregate-walk32-into c = search needs
@@ -12,7 +15,8 @@ walk32-into-requires : tie.Need-walk32-into-requires
 walk32-into-requires c κs = search needs
 
 returns : tie.Need-returns
-returns c = walk-value _ _ _ (c .before .walk32-into .ensures)
+returns c = walk-value _ _ _ _ (c .before .before .before .before .empty .ensures) (c .before .walk32-into .ensures)
 
 pub walk32-spec : {M : Type 1} → statement M
-walk32-spec = tie.close (tie.spec slice-aggregate-walk32-into walk32-into-requires returns)
+walk32-spec =
+    tie.close (tie.spec empty-requires slice-aggregate-walk32-into walk32-into-requires returns)

@@ -1,10 +1,8 @@
 -- `wave::walk32_into` meets its contract: a law for each way that it ends.
 -- Assumes nothing.
 use mathlib.Core.Path.{sym, _∙_}
-use native.Mathlib.Omega.{arith}
-use lib.ListN.{length-set}
-use Rattle.wave.proofs.Ends.{walk-short, walk-refused, walk-done, verdict-refused, open32-told}
 use borrow.Author.Needs.{needs}
+use Rattle.wave.proofs.Ends.{walk-short, walk-refused, walk-done, verdict-refused, open32-told}
 use Rattle.wave.proofs.walk32_into.Statement.{statement}
 use Rattle.wave.proofs.walk32_into.Tie as tie
 
@@ -18,7 +16,7 @@ enum-known-r : tie.Need-enum-known-r
 enum-known-r c = search needs
 
 slice-write-words : tie.Need-slice-write-words
-slice-write-words c = omega arith
+slice-write-words c = search needs
 
 enum-told : tie.Need-enum-told
 enum-told c = search needs
@@ -27,7 +25,7 @@ list32-requires : tie.Need-list32-requires
 list32-requires c κs = (open32-told _ (sym (c .before .before .before .open32 .ensures) ∙ c .before .enum-told .given .1) .long, c .before .before .before .before .if1 .left)
 
 same-length : tie.Need-same-length
-same-length c = simp length-set
+same-length c = search needs
 
 returns-2 : tie.Need-returns-2
 returns-2 c = walk-refused _ _ _ (c .before .before .before .before .if1 .left) (verdict-refused _ _ (sym (c .before .before .before .open32 .ensures) ∙ c .before .r .given .1))

@@ -1,7 +1,7 @@
 -- `writer::chunk_size` meets its contract: the sum fits.
 -- Assumes nothing.
 use mathlib.Core.Path.{refl}
-use Rattle.writer.specs.Parts.{chunkSize}
+use Rattle.writer.specs.Files.{chunkSize}
 use borrow.Author.Needs.{needs}
 use Rattle.writer.proofs.chunk_size.Statement.{statement}
 use Rattle.writer.proofs.chunk_size.Tie as tie

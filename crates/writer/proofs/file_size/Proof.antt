@@ -1,7 +1,8 @@
 -- `writer::file_size` meets its contract: the sum of its parts, which fits.
 -- Assumes nothing.
 use native.Mathlib.Omega.{arith}
-use Rattle.writer.specs.Parts.{chunkSize, fileSize}
+use Rattle.writer.specs.Files.{chunkSize}
+use Rattle.writer.specs.Contracts.{fileSize}
 use Rattle.writer.proofs.Sizes.{size-most}
 use borrow.Author.Needs.{needs}
 use Rattle.writer.proofs.file_size.Statement.{statement}

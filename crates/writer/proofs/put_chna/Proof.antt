@@ -7,8 +7,7 @@ use Prim.Native.Nat.{ℕ, _+_}
 use lib.ListN.{length}
 use Rattle.chunk.specs.Names.{CHNA}
 use Rattle.chna.specs.Records.{padsZeroed}
-use Rattle.writer.specs.Files.{padOf, chunkWith, chunkBytes}
-use Rattle.writer.specs.Parts.{chunkSize}
+use Rattle.writer.specs.Files.{padOf, chunkWith, chunkBytes, chunkSize}
 use Rattle.writer.proofs.Sizes.{optional-none, optional-some, size-some, zeroed-length}
 use Rattle.writer.proofs.Stores.{nothing-puts, puts-as, chunk-puts}
 use borrow.Author.Needs.{needs}

@@ -2,7 +2,7 @@
 -- Assumes nothing.
 use mathlib.Core.Path.{refl}
 use native.Mathlib.Omega.{arith}
-use Rattle.writer.specs.Parts.{chunkSize}
+use Rattle.writer.specs.Files.{chunkSize}
 use Rattle.writer.proofs.Stores.{chunk-puts}
 use borrow.Author.Needs.{needs}
 use Rattle.writer.proofs.put_chunk.Statement.{statement}

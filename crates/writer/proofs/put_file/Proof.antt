@@ -4,7 +4,8 @@ use mathlib.Core.Path.{ap}
 use native.Mathlib.Omega.{arith}
 use Rattle.chunk.specs.Names.{BEXT, CHNA}
 use Rattle.chna.specs.Records.{padsZeroed}
-use Rattle.writer.specs.Parts.{chunkSize, optionalSize, fileSize}
+use Rattle.writer.specs.Files.{chunkSize, optionalSize}
+use Rattle.writer.specs.Contracts.{fileSize}
 use Rattle.writer.proofs.Inputs.{block-least-of}
 use Rattle.writer.proofs.Sizes.{optional-length, zeroed-length}
 use Rattle.writer.proofs.Outs.{whole-put}

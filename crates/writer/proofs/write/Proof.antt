@@ -7,7 +7,7 @@ use mathlib.Core.Bool.{_||_}
 use lib.Dec.{leb}
 use borrow.Author.Tests.{not-true, not-false}
 use Rattle.form.specs.Forms.{isWide}
-use Rattle.writer.specs.Parts.{fileSize}
+use Rattle.writer.specs.Contracts.{fileSize}
 use Rattle.writer.proofs.Inputs.{good, chna-short}
 use Rattle.writer.proofs.Sizes.{form-size}
 use Rattle.writer.proofs.Outs.{bad-record, large-bext, large-form, lacks-room, written-all}

@@ -2,7 +2,7 @@
 -- Assumes nothing.
 use borrow.Author.Tests.{eq-eqb, ne-eqb}
 use Rattle.form.specs.Forms.{formOf}
-use Rattle.form.specs.Answers.{namedAs}
+use Rattle.form.specs.Contracts.{namedAs}
 use Rattle.form.proofs.opening.form_of.Statement.{statement}
 use Rattle.form.proofs.opening.form_of.Tie as tie
 

@@ -6,15 +6,16 @@ use native.Mathlib.Omega.{arith}
 use lib.ListN.{length, drop}
 use Rattle.form.specs.declared.Size.the-variants as size
 use Rattle.form.specs.Sizes.{entriesIn, entrySize}
-use Rattle.form.specs.Answers.{sizeAs}
-use Rattle.form.proofs.Known.{entry-here, entry-later, entry-none}
+use Rattle.form.specs.Contracts.{sizeAs}
+use Rattle.form.proofs.Ds64Entries.{entry-here, entry-later, entry-none}
 use Rattle.form.proofs.truesize.entry_size.Statement.{statement}
 use Rattle.form.proofs.truesize.entry_size.Tie as tie
+use Rattle.form.specs.Forms.{LEAST, ENTRY}
 
 abbrev Inv-loop : tie.InvT-loop
 Inv-loop file count name left₀ at₀ left at =
-    (at + 12 * left ≤ length file)
-    × (sizeAs (entrySize name (entriesIn left (drop at file))) ≡ sizeAs (entrySize name (entriesIn count (drop 48 file))))
+    (at + ENTRY * left ≤ length file)
+    × (sizeAs (entrySize name (entriesIn left (drop at file))) ≡ sizeAs (entrySize name (entriesIn count (drop (20 + LEAST) file))))
 
 abbrev μ-loop : tie.MeasureT-loop
 μ-loop file count name left₀ at₀ left at = left
@@ -34,7 +35,7 @@ read8-requires c κs = omega arith
 returns : tie.Need-returns Inv-loop μ-loop
 unfolding sizeAs
 returns c =
-    ap size.Bytes (c .read8 .ensures .is)
+    ap (λ (n : ℕ). size.Known (record { bytes = n })) (c .read8 .ensures .is)
     ∙ ap sizeAs (sym (entry-here _ _ _ _ (omega arith) (sym (c .before .before .read4 .ensures .is) ∙ c .before .if1 .taken)))
     ∙ c .before .before .before .before .loop .inv .1
 

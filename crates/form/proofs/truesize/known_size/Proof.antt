@@ -4,7 +4,7 @@ use mathlib.Core.Path.{_∙_, ap, sym}
 use borrow.Author.Tests.{eq-eqb, ne-eqb}
 use Rattle.chunk.proofs.Checks.{pick-true, pick-false}
 use Rattle.form.specs.Sizes.{knownSize}
-use Rattle.form.specs.Answers.{sizeAs}
+use Rattle.form.specs.Contracts.{sizeAs}
 use borrow.Author.Needs.{needs}
 use Rattle.form.proofs.truesize.known_size.Statement.{statement}
 use Rattle.form.proofs.truesize.known_size.Tie as tie

@@ -3,7 +3,7 @@
 use mathlib.Core.Path.{_≡_, _∙_, ap, sym}
 use Prim.Native.Nat.{ℕ}
 use Rattle.script.specs.declared.Mode.{Mode}
-use Rattle.script.specs.Scripts.{commandOf, within, meaning, signOf}
+use Rattle.script.specs.Scripts.{within, meaning, signOf}
 use Rattle.script.specs.declared.Sign.the-variants.{Put}
 use borrow.Author.Needs.{needs}
 use Rattle.script.proofs.State.sign.Statement.{statement}

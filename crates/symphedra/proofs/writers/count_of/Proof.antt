@@ -1,7 +1,7 @@
 -- `symphedra::writers::count_of` meets its contract: in each arm the answer is known.
 -- Assumes nothing.
-use mathlib.Core.Path.{sym, ap}
-use Rattle.symphedra.specs.Writers.{countFor}
+use mathlib.Core.Path.{ap}
+use Rattle.chunk.specs.Writes.{writtenValues}
 use borrow.Author.Needs.{needs}
 use Rattle.symphedra.proofs.writers.count_of.Statement.{statement}
 use Rattle.symphedra.proofs.writers.count_of.Tie as tie
@@ -13,12 +13,12 @@ enum-told : tie.Need-enum-told
 enum-told c = search needs
 
 returns : tie.Need-returns
-unfolding countFor
-returns c = sym (ap countFor (c .before .answer .given .1))
+unfolding writtenValues
+returns c = ap writtenValues (c .before .answer .given .1)
 
 returns-2 : tie.Need-returns-2
-unfolding countFor
-returns-2 c = sym (ap countFor (c .enum-told .given .1))
+unfolding writtenValues
+returns-2 c = ap writtenValues (c .enum-told .given .1)
 
 pub count-of-spec : {M : Type 1} → statement M
 count-of-spec = tie.close (tie.spec enum-known-answer enum-told returns returns-2)

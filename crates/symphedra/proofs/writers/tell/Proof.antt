@@ -1,7 +1,7 @@
 -- `symphedra::writers::tell` meets its contract: there is no word, or it takes the count.
 -- Assumes nothing.
-use mathlib.Core.Path.{ap}
-use lib.ListN.{set}
+use mathlib.Core.Path.{ap, sym}
+use lib.Seq.{sets}
 use Rattle.symphedra.proofs.Written.{no-word}
 use borrow.Author.Needs.{needs}
 use Rattle.symphedra.proofs.writers.tell.Statement.{statement}
@@ -29,7 +29,7 @@ returns-2 : tie.Need-returns-2
 returns-2 c =
     record {
       number = c .number-of2 .ensures;
-      words = ap (set (c .before .before .before .before .args .written .now) 0) (c .before .count-of .ensures);
+      words = ap (sets (c .before .before .before .before .args .written .now) 0) (sym (c .before .count-of .ensures));
     }
 
 pub tell-spec : {M : Type 1} → statement M

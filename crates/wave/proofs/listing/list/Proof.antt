@@ -1,77 +1,81 @@
--- `wave::listing::list` meets its contract: the loop's invariant is a walk in the middle, with the tally of the rows passed.
+-- `wave::listing::list` meets its contract: the head, the walk past ds64 and check 10 in turn, a law for each way that they
+-- end.
 -- Assumes nothing.
 use mathlib.Core.Path.{sym, _∙_, ap}
-use Prim.Native.Nat.{_-_}
-use native.Mathlib.Omega.{arith}
 use borrow.Author.Needs.{needs}
-use Rattle.chunk.specs.Dues.{stopOf}
-use Rattle.wave.proofs.Loops.{moves}
-use Rattle.wave.proofs.Notes.{Noting, noting-start, noting-next, noting-stop}
+use Rattle.form.proofs.Opens.{opened-refused, opened-start}
+use Rattle.wave.specs.declared.listing.Listed.the-variants as listed
+use Rattle.wave.specs.Contracts.{listedAs}
+use Rattle.wave.proofs.Listings.{starts-due, listing-head, list-refused, list-noted, list-bare}
 use Rattle.wave.proofs.listing.list.Statement.{statement}
 use Rattle.wave.proofs.listing.list.Tie as tie
 
-abbrev Inv-loop : tie.InvT-loop
-Inv-loop file head at₀ used₀ tally₀ at used tally = Noting head file at used tally
+open-requires : tie.Need-open-requires
+open-requires c κs = search needs
 
-abbrev μ-loop : tie.MeasureT-loop
-μ-loop file head at₀ used₀ tally₀ at used tally = 64 - used
+enum-known-r : tie.Need-enum-known-r
+enum-known-r c = search needs
 
-none-requires : tie.Need-none-requires Inv-loop μ-loop
-none-requires c κs = search needs
+enum-known-o : tie.Need-enum-known-o
+enum-known-o c = search needs
 
-loop-holds : tie.Need-loop-holds Inv-loop μ-loop
-loop-holds c = noting-start _ _ _ (c .before .before .pre .0) (c .none .ensures)
+sub-bare : tie.Need-sub-bare
+sub-bare c =
+    starts-due _ _ (opened-start _ _ _ (sym (c .before .before .before .before .before .before .«open» .ensures) ∙ c .before .before .before .before .o .given .1)) .start
 
-sub-step : tie.Need-sub-step Inv-loop μ-loop
-sub-step c = omega arith
+bare-requires : tie.Need-bare-requires
+bare-requires c κs = search needs
 
-step-requires : tie.Need-step-requires Inv-loop μ-loop
-step-requires c κs = (c .loop .inv .inside, c .before .before .before .pre .1)
-
-enum-known-found : tie.Need-enum-known-found Inv-loop μ-loop
-enum-known-found c = search needs
-
-enum-told : tie.Need-enum-told Inv-loop μ-loop
-enum-told c = search needs
-
-stop-requires : tie.Need-stop-requires Inv-loop μ-loop
-stop-requires c κs = search needs
-
-returns : tie.Need-returns Inv-loop μ-loop
-unfolding stopOf
+returns : tie.Need-returns
+unfolding listedAs
 returns c =
-    let told = c .before .enum-told .given .1 in
-    noting-stop _ _ _ _ _ _ _ (c .before .before .before .before .loop .inv) (sym (c .before .before .before .step .ensures) ∙ told) (c .stop .ensures ∙ ap stopOf told)
+    let b = opened-start _ _ _ (sym (c .before .before .before .before .before .before .before .«open» .ensures) ∙ c .before .before .before .before .before .o .given .1) in
+    ap listed.Refused (c .bare .ensures) ∙ sym (ap (listedAs _) (list-bare _ _ b (c .before .before .if1 .taken)))
 
-note-requires : tie.Need-note-requires Inv-loop μ-loop
-note-requires c κs = search needs
+walk-requires : tie.Need-walk-requires
+walk-requires c κs =
+    let b = opened-start _ _ _ (sym (c .before .before .before .before .before .«open» .ensures) ∙ c .before .before .before .o .given .1) in
+    record { head = b .head; place = b .place; room = b .room; whole = c .if1 .left }
 
-add-used : tie.Need-add-used Inv-loop μ-loop
-add-used c = omega (arith, c .before .before .before .before .before .loop .inv .few)
+enum-known-r-2 : tie.Need-enum-known-r-2
+enum-known-r-2 c = search needs
 
-loop-less : tie.Need-loop-less Inv-loop μ-loop
-loop-less c =
-    let m = moves _ _ _ _ _ _ (sym (c .before .before .before .before .step .ensures) ∙ c .before .before .found .given .1) in
-    omega (arith, m .less)
+enum-known-n : tie.Need-enum-known-n
+enum-known-n c = search needs
 
-loop-again : tie.Need-loop-again Inv-loop μ-loop
-loop-again c = noting-next _ _ _ _ _ _ _ _ (c .before .before .before .before .before .loop .inv) (sym (c .before .before .before .before .step .ensures) ∙ c .before .before .found .given .1) (c .note .ensures)
+chunks-requires : tie.Need-chunks-requires
+chunks-requires c κs = search needs
+
+returns-2 : tie.Need-returns-2
+unfolding listedAs
+returns-2 c =
+    sym (ap (listedAs _) (listing-head _ _ (opened-refused _ _ _ (sym (c .before .before .before .«open» .ensures) ∙ c .before .r .given .1))))
+
+returns-3 : tie.Need-returns-3
+unfolding listedAs
+returns-3 c =
+    let b = opened-start _ _ _ (sym (c .before .before .before .before .before .before .before .before .before .«open» .ensures) ∙ c .before .before .before .before .before .before .before .o .given .1) in
+    sym (ap (listedAs _) (list-refused _ _ b _ _ _ (sym (c .before .before .before .walk .ensures) ∙ c .before .r2 .given .1)))
+
+returns-4 : tie.Need-returns-4
+returns-4 c =
+    let b = opened-start _ _ _ (sym (c .before .before .before .before .before .before .before .before .before .before .before .«open» .ensures) ∙ c .before .before .before .before .before .before .before .before .before .o .given .1) in
+    c .chunks .ensures ∙ list-noted _ _ b _ (sym (c .before .before .before .before .before .walk .ensures) ∙ c .before .before .before .n .given .1)
 
 pub list-spec : {M : Type 1} → statement M
 list-spec =
     tie.close
     (tie.spec
-    Inv-loop
-    μ-loop
-    none-requires
-    loop-holds
-    sub-step
-    step-requires
-    enum-known-found
-    enum-told
-    stop-requires
+    open-requires
+    enum-known-r
+    enum-known-o
+    sub-bare
+    bare-requires
     returns
-    note-requires
-    add-used
-    loop-less
-    loop-again)
+    walk-requires
+    enum-known-r-2
+    enum-known-n
+    chunks-requires
+    returns-2
+    returns-3
+    returns-4)

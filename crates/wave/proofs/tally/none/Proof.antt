@@ -1,13 +1,12 @@
--- `wave::tally::none` meets its contract: the tally of no rows computes.
+-- `wave::tally::none` meets its contract: the tally of no chunk is written out.
 -- Assumes nothing.
-use mathlib.Core.Path.{_≡_, refl, sym, _∙_, ap, subst}
-use Rattle.chunk.specs.Tables.{count}
-use Rattle.wave.specs.Tallies.{metAs, metIn, tallyOf}
+use mathlib.Core.Path.{refl}
+use Rattle.wave.specs.Contracts.{noTally}
 use Rattle.wave.proofs.tally.none.Statement.{statement}
 use Rattle.wave.proofs.tally.none.Tie as tie
 
 returns : tie.Need-returns
-unfolding tallyOf metIn metAs count
+unfolding noTally
 returns c = refl
 
 pub none-spec : {M : Type 1} → statement M

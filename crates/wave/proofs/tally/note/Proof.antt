@@ -1,55 +1,76 @@
 -- `wave::tally::note` meets its contract: the name picks what changes.
 -- Assumes nothing.
-use Rattle.wave.proofs.Tallied.{note-fmt, note-audio, note-fact, note-bext, note-chna, note-none}
 use borrow.Author.Needs.{needs}
+use Rattle.wave.specs.Contracts.{payloadOf}
+use Rattle.wave.proofs.Passing.{note-fmt, note-data, note-fact, note-short, note-bext, note-chna, note-none}
 use Rattle.wave.proofs.tally.note.Statement.{statement}
 use Rattle.wave.proofs.tally.note.Tie as tie
 
-once-more-requires : tie.Need-once-more-requires
-once-more-requires c κs = search needs
+add-t : tie.Need-add-t
+add-t c = search needs
 
 returns : tie.Need-returns
-returns c = note-fmt (c .before .before .args .e) (c .before .before .args .t) _ (c .before .if1 .taken) (c .once-more .ensures)
+unfolding payloadOf
+returns c = note-fmt (c .before .before .args .t) (c .before .before .args .e) (c .before .if1 .taken)
 
-once-more-requires-2 : tie.Need-once-more-requires-2
-once-more-requires-2 c κs = search needs
+add-t-2 : tie.Need-add-t-2
+add-t-2 c = search needs
 
 returns-2 : tie.Need-returns-2
-returns-2 c = note-audio (c .before .before .before .args .e) (c .before .before .before .args .t) _ (c .before .if2 .taken) (c .once-more2 .ensures)
+unfolding payloadOf
+returns-2 c = note-data (c .before .before .before .args .t) (c .before .before .before .args .e) (c .before .if2 .taken)
 
-once-more-requires-3 : tie.Need-once-more-requires-3
-once-more-requires-3 c κs = search needs
+add-t-3 : tie.Need-add-t-3
+add-t-3 c = search needs
+
+add-t-4 : tie.Need-add-t-4
+add-t-4 c = search needs
 
 returns-3 : tie.Need-returns-3
-returns-3 c = note-fact (c .before .before .before .before .args .e) (c .before .before .before .before .args .t) _ (c .before .if3 .taken) (c .once-more3 .ensures)
-
-once-more-requires-4 : tie.Need-once-more-requires-4
-once-more-requires-4 c κs = search needs
+returns-3 c =
+    let a = c .before .before .before .before .before .before .before .args in
+    note-short (a .t) (a .e) (c .before .before .before .before .if3 .taken) (c .before .if4 .taken)
 
 returns-4 : tie.Need-returns-4
-returns-4 c = note-bext (c .before .before .before .before .before .args .e) (c .before .before .before .before .before .args .t) _ (c .before .if4 .taken) (c .once-more4 .ensures)
+returns-4 c =
+    let a = c .before .before .before .before .before .before .args in
+    note-fact (a .t) (a .e) (c .before .before .before .if3 .taken) (c .if4 .left)
 
-once-more-requires-5 : tie.Need-once-more-requires-5
-once-more-requires-5 c κs = search needs
+add-t-5 : tie.Need-add-t-5
+add-t-5 c = search needs
 
 returns-5 : tie.Need-returns-5
-returns-5 c = note-chna (c .before .before .before .before .before .before .args .e) (c .before .before .before .before .before .before .args .t) _ (c .before .if5 .taken) (c .once-more5 .ensures)
+returns-5 c =
+    let a = c .before .before .before .before .before .args in
+    note-bext (a .t) (a .e) (c .before .if5 .taken)
+
+add-t-6 : tie.Need-add-t-6
+add-t-6 c = search needs
 
 returns-6 : tie.Need-returns-6
-returns-6 c = note-none (c .before .before .before .before .before .args .e) (c .before .before .before .before .before .args .t) (c .before .before .before .before .if1 .left) (c .before .before .before .if2 .left) (c .before .before .if3 .left) (c .before .if4 .left) (c .if5 .left)
+returns-6 c =
+    let a = c .before .before .before .before .before .before .args in
+    note-chna (a .t) (a .e) (c .before .if6 .taken)
+
+returns-7 : tie.Need-returns-7
+returns-7 c =
+    let a = c .before .before .before .before .before .args in
+    note-none (a .t) (a .e) (c .before .before .before .before .if1 .left) (c .before .before .before .if2 .left) (c .before .before .if3 .left) (c .before .if5 .left) (c .if6 .left)
 
 pub note-spec : {M : Type 1} → statement M
 note-spec =
     tie.close
     (tie.spec
-    once-more-requires
+    add-t
     returns
-    once-more-requires-2
+    add-t-2
     returns-2
-    once-more-requires-3
+    add-t-3
+    add-t-4
     returns-3
-    once-more-requires-4
     returns-4
-    once-more-requires-5
+    add-t-5
     returns-5
-    returns-6)
+    add-t-6
+    returns-6
+    returns-7)

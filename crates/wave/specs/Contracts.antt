@@ -1,0 +1,270 @@
+-- What the code alone needs: what the scan keeps of the chunks in place of their table, and the parts that it is made of.
+use Prim.Native.Nat.{ℕ, zero, suc, _+_, _-_, _*_, _%_, _^_, _≤_, _<_}
+use mathlib.Core.Path.{_≡_}
+use mathlib.Core.Bool.{Bool, not, _&&_}
+use mathlib.Core.List.{List, [], _∷_}
+use lib.ListN.{length, getD, set}
+use lib.Seq.{sets}
+use lib.Dec.{eqb, leb, ltb}
+use Rattle.le.specs.Number.{number, field}
+use Rattle.le.specs.Choice.{pick, every}
+use Rattle.chunk.specs.declared.Entry.{Entry}
+use Rattle.chunk.specs.declared.Header.{Header}
+use Rattle.chunk.specs.declared.Refusal.{Refusal}
+use Rattle.chunk.specs.declared.Refusal.the-variants.{BadChunkSet, CutHeader}
+use Rattle.chunk.specs.declared.Verdict.{Verdict}
+use Rattle.chunk.specs.declared.Verdict.the-variants as verdict
+use Rattle.chunk.specs.Refusals.{Answer, refused, given}
+use Rattle.chunk.specs.Names.{FMT, DATA, FACT, BEXT, CHNA}
+use Rattle.chunk.specs.Fields.{ONES}
+use Rattle.chunk.specs.Tables.{count, find, rowWords, tabled, LIMIT, WORDS}
+use Rattle.chunk.specs.Walks.{Rule, Walked, walk}
+use Rattle.chunk.specs.Contracts.{headerOf}
+use Rattle.form.specs.declared.Head.{Head}
+use Rattle.form.specs.declared.Start.{Start}
+use Rattle.form.specs.Forms.{headOf}
+use Rattle.form.specs.Sizes.{trueSize, entriesOf}
+use Rattle.form.specs.Contracts.{EntriesFit, placeOf, roomOf}
+use Rattle.fmt.specs.declared.Format.{Format}
+use Rattle.wave.specs.declared.Samples.{Samples}
+use Rattle.wave.specs.declared.Samples.the-variants as samples
+use Rattle.wave.specs.declared.tally.Payload.{Payload}
+use Rattle.wave.specs.declared.tally.Tally.{Tally}
+use Rattle.wave.specs.declared.listing.Fact.{Fact}
+use Rattle.wave.specs.declared.listing.Fact.the-variants as fact
+use Rattle.wave.specs.declared.listing.Passed.{Passed}
+use Rattle.wave.specs.declared.listing.Noted.{Noted}
+use Rattle.wave.specs.declared.listing.Tallied.{Tallied}
+use Rattle.wave.specs.declared.listing.Tallied.the-variants as tallied
+use Rattle.wave.specs.declared.listing.Listing as code
+use Rattle.wave.specs.declared.listing.Listed.{Listed}
+use Rattle.wave.specs.declared.listing.Listed.the-variants as listed
+use Rattle.wave.specs.declared.listing.Accepted.{Accepted}
+use Rattle.wave.specs.declared.listing.Examined.{Examined}
+use Rattle.wave.specs.declared.listing.Examined.the-variants as examined
+use Rattle.wave.specs.Scans.{Listing, Scan, headers, judged, factCount}
+
+-- ---- the tally
+
+unfoldable pub payloadOf : Entry → Payload
+payloadOf e = record { place = e .place; size = e .size }
+
+-- a fact counts once, and twice where it is below 4 bytes
+unfoldable pub weight : Entry → ℕ
+unfolding pick
+weight e = pick (ltb (e .size) 4) 2 1
+
+-- what is kept of a name after one chunk more: it changes where the chunk has the name
+unfoldable pub changes {ℓ} : {X : Type ℓ} → ℕ → Entry → X → X → X
+unfolding pick
+changes name e new old = pick (eqb (e .name) name) new old
+
+unfoldable pub noted : Tally → Entry → Tally
+noted t e =
+    record {
+      fmts = changes FMT e (t .fmts + 1) (t .fmts);
+      datas = changes DATA e (t .datas + 1) (t .datas);
+      facts = changes FACT e (t .facts + weight e) (t .facts);
+      bexts = changes BEXT e (t .bexts + 1) (t .bexts);
+      chnas = changes CHNA e (t .chnas + 1) (t .chnas);
+      fmt = changes FMT e (payloadOf e) (t .fmt);
+      audio = changes DATA e (payloadOf e) (t .audio);
+      fact = changes FACT e (e .place) (t .fact);
+    }
+
+unfoldable pub allNoted : Tally → List Entry → Tally
+allNoted t [] = t
+allNoted t (e ∷ es) = allNoted (noted t e) es
+
+unfoldable pub noTally : Tally
+noTally =
+    record {
+      fmts = 0;
+      datas = 0;
+      facts = 0;
+      bexts = 0;
+      chnas = 0;
+      fmt = record { place = 0; size = 0 };
+      audio = record { place = 0; size = 0 };
+      fact = 0;
+    }
+
+-- no count of a tally is near 2 ^ 64
+pub record Small (t : Tally) : Type 0 where
+  pub fmts : t .fmts < 2 ^ 32
+  pub datas : t .datas < 2 ^ 32
+  pub facts : t .facts < 2 ^ 32
+  pub bexts : t .bexts < 2 ^ 32
+  pub chnas : t .chnas < 2 ^ 32
+
+-- check 10 of a tally
+unfoldable pub tallyGood : Tally → Bool
+unfolding every
+tallyGood t =
+    every
+    (eqb (t .fmts) 1
+    ∷ eqb (t .datas) 1
+    ∷ ltb (t .fmt .place) (t .audio .place)
+    ∷ leb (t .bexts) 1
+    ∷ leb (t .chnas) 1
+    ∷ leb (t .facts) 1
+    ∷ [])
+
+unfoldable pub factOf : Tally → Fact
+unfolding pick
+factOf t = pick (eqb (t .facts) 0) fact.None (fact.At (t .fact))
+
+-- ---- the walk
+
+-- a chunk that no rule asks for, with a whole header after it: its field is its size, its name starts with none of b to f
+unfoldable pub nextOf : ℕ → List ℕ → ℕ
+nextOf place s = place + number 4 (place - 4) s + number 4 (place - 4) s % 2 + 8
+
+unfoldable pub passes : ℕ → List ℕ → Bool
+unfolding every
+passes place s =
+    every
+    (not (eqb (number 4 (place - 4) s) ONES)
+    ∷ not (leb 98 (getD s (place - 8) 0) && leb (getD s (place - 8) 0) 102)
+    ∷ leb (nextOf place s) (length s)
+    ∷ [])
+
+unfoldable pub passedFrom : List ℕ → ℕ → ℕ → Passed
+unfolding pick
+passedFrom s zero place = record { place = place; room = 0 }
+passedFrom s (suc room) place =
+    pick (passes place s) (passedFrom s room (nextOf place s)) (record { place = place; room = suc room })
+
+abbrev pub rule : Head → List ℕ → Rule
+rule h s = trueSize h (entriesOf h s)
+
+-- the walk past ds64
+abbrev pub restOf : Start → List ℕ → Walked
+restOf o s = walk (rule (o .head) s) s (o .room) (o .place - 8)
+
+-- a good head, and a whole header past ds64
+pub record Begins (s : List ℕ) (o : Start) : Type 0 where
+  pub head : headOf s ≡ given (o .head)
+  pub place : o .place ≡ placeOf (o .head .form) s
+  pub room : o .room ≡ roomOf (o .head .form)
+  pub whole : o .place ≤ length s
+
+-- what a walk to the end has noted
+unfoldable pub tallyAs : Header → ℕ → Tally → Walked → Tallied
+tallyAs first n t w = ended (w .end)
+  where
+    ended : Verdict → Tallied
+    ended verdict.Accepted = tallied.Noted (record { tally = allNoted t (w .rows); first = first; count = n + length (w .rows) })
+    ended (verdict.Refused r) = tallied.Refused r
+
+-- ---- the listing and the judgement
+
+unfoldable pub factIn : List Entry → Fact
+unfolding pick
+factIn rows = pick (eqb (count FACT rows) 0) fact.None (fact.At (find FACT rows .place))
+
+-- what the code keeps of a listing
+unfoldable pub keptOf : List ℕ → Listing → code.Listing
+keptOf s l =
+    record {
+      head = l .head;
+      first = headerOf (placeOf (l .head .form) s) s;
+      fmt = payloadOf (find FMT (l .rows));
+      audio = payloadOf (find DATA (l .rows));
+      fact = factIn (l .rows);
+      count = length (l .rows);
+    }
+
+unfoldable pub listedAs : List ℕ → Answer Listing → Listed
+listedAs s (refused r) = listed.Refused r
+listedAs s (given l) = listed.Listing (keptOf s l)
+
+-- check 10
+unfoldable pub chunksAs : Head → Noted → Listed
+unfolding pick
+chunksAs h n =
+    pick (tallyGood (n .tally))
+    (listed.Listing
+    (record {
+      head = h;
+      first = n .first;
+      fmt = n .tally .fmt;
+      audio = n .tally .audio;
+      fact = factOf (n .tally);
+      count = n .count;
+    }))
+    (listed.Refused BadChunkSet)
+
+-- no whole header past ds64
+unfoldable pub bareAs : ℕ → ℕ → Refusal
+unfolding pick
+bareAs len end = pick (eqb end len) BadChunkSet CutHeader
+
+-- the fmt payload of a listing lies in the file
+pub record FmtFits (l : code.Listing) (s : List ℕ) : Type 0 where
+  pub inside : l .fmt .place + l .fmt .size ≤ length s
+
+unfoldable pub judgedAs : code.Listing → Answer Format → Examined
+judgedAs l (refused r) = examined.Refused r
+judgedAs l (given f) =
+    examined.Accepted
+    (record { head = l .head; first = l .first; audio = l .audio; fact = l .fact; count = l .count; format = f })
+
+unfoldable pub judgeOf : code.Listing → List ℕ → Examined
+judgeOf l s = judgedAs l (judged (field (l .fmt .size) (l .fmt .place) s) (l .audio .size))
+
+-- what the code knows of an accepted file besides its table
+unfoldable pub acceptedOf : List ℕ → Scan → Accepted
+acceptedOf s a =
+    record {
+      head = a .head;
+      first = headerOf (placeOf (a .head .form) s) s;
+      audio = payloadOf (find DATA (a .rows));
+      fact = factIn (a .rows);
+      count = length (a .rows);
+      format = a .format;
+    }
+
+unfoldable pub examinedAs : List ℕ → Answer Scan → Examined
+examinedAs s (refused r) = examined.Refused r
+examinedAs s (given a) = examined.Accepted (acceptedOf s a)
+
+-- the sample count of a file with fact's payload at a place
+unfoldable pub countAt : Head → ℕ → List ℕ → Samples
+countAt h place s = samples.Count (factCount (h .form) (h .ds64 .third) (number 4 place s))
+
+-- ---- rows into words
+
+-- a walk from byte 12 into words
+pub record Lists (r : Rule) (s w : List ℕ) (v : Verdict) (w' : List ℕ) : Type 0 where
+  pub verdict : v ≡ walk r s LIMIT 12 .end
+  pub words : w' ≡ tabled (walk r s LIMIT 12 .rows) w
+
+-- these rows stored one after the other, from a word on
+unfoldable pub rowsFrom : List ℕ → ℕ → List Entry → List ℕ
+rowsFrom w row [] = w
+rowsFrom w row (e ∷ es) = rowsFrom (sets w row (rowWords e)) (row + 4) es
+
+-- the rest of a walk stored behind rows that are there, and the number of all
+pub record Finishes (used : ℕ) (rest : Walked) (w : List ℕ) (v : Verdict) (w' : List ℕ) : Type 0 where
+  pub verdict : v ≡ rest .end
+  pub words : w' ≡ set (rowsFrom w (1 + 4 * used) (rest .rows)) 0 (used + length (rest .rows))
+
+-- a walk by a rule came to the end of the file, and there are words for its rows, which end at a word
+pub record Rowed (r : Rule) (s : List ℕ) (stop : ℕ) (w : List ℕ) : Type 0 where
+  pub long : 12 ≤ length s
+  pub end : walk r s LIMIT 12 .end ≡ verdict.Accepted
+  pub stops : stop ≡ 1 + 4 * length (walk r s LIMIT 12 .rows)
+  pub room : WORDS ≤ length w
+
+pub record WideRows (h : Head) (s : List ℕ) (stop : ℕ) (w : List ℕ) : Type 0 where
+  pub fit : EntriesFit h s
+  pub rows : Rowed (rule h s) s stop w
+
+-- the scan's walk came to the end of the file with as many rows, and there are words for them
+pub record Fills (h : Head) (s : List ℕ) (n : ℕ) (w : List ℕ) : Type 0 where
+  pub long : 12 ≤ length s
+  pub fit : EntriesFit h s
+  pub end : headers h s .end ≡ verdict.Accepted
+  pub count : n ≡ length (headers h s .rows)
+  pub room : WORDS ≤ length w
