@@ -101,7 +101,7 @@ from s used place = walk ownSize s (LIMIT - used) (place - 8)
 abbrev all : List ℕ → Walked
 all s = walk ownSize s LIMIT 12
 
-pub record Going (s w₀ w : List ℕ) (place used : ℕ) : Type 0 where
+pub record Storing (s w₀ w : List ℕ) (place used : ℕ) : Type 0 where
   pub few : used ≤ LIMIT
   pub due : Due s place
   pub same : length w ≡ length w₀
@@ -109,8 +109,8 @@ pub record Going (s w₀ w : List ℕ) (place used : ℕ) : Type 0 where
   pub end : from s used place .end ≡ all s .end
   pub count : used + length (from s used place .rows) ≡ length (all s .rows)
 
-pub going-start : (s w : List ℕ) → 20 ≤ length s → Going s w w 20 0
-going-start s w h =
+pub storing-start : (s w : List ℕ) → 20 ≤ length s → Storing s w w 20 0
+storing-start s w h =
     record {
       few = omega arith;
       due = record { start = omega arith; whole = h; even = refl };
@@ -128,12 +128,12 @@ step-walks s place used d l =
     ap (λ (k : ℕ). walk ownSize s k (place - 8)) p ∙ turn ownSize s (LIMIT - (used + 1)) place d
 
 -- a chunk
-pub going-next : (s w₀ w v : List ℕ) (place used : ℕ) (e : Entry) (to : ℕ) → Going s w₀ w place used → used < LIMIT
-    → stepOn ownSize s place ≡ Chunk e to → v ≡ sets w (1 + 4 * used) (rowWords e) → Going s w₀ v to (used + 1)
+pub storing-next : (s w₀ w v : List ℕ) (place used : ℕ) (e : Entry) (to : ℕ) → Storing s w₀ w place used → used < LIMIT
+    → stepOn ownSize s place ≡ Chunk e to → v ≡ sets w (1 + 4 * used) (rowWords e) → Storing s w₀ v to (used + 1)
 unfolding filled setRow walkAfter
-going-next s w₀ w v place used e to g l q p =
+storing-next s w₀ w v place used e to g l q p =
     let k = step-walks s place used (g .due) l ∙ ap (λ (x : Step). walkAfter x (walk ownSize s (LIMIT - (used + 1)))) q in
-    subst (λ (x : List ℕ). Going s w₀ x to (used + 1)) (sym p)
+    subst (λ (x : List ℕ). Storing s w₀ x to (used + 1)) (sym p)
     (record {
       few = omega arith;
       due = turn-due ownSize s place e to (g .due .even) q;
@@ -144,10 +144,10 @@ going-next s w₀ w v place used e to g l q p =
     })
 
 -- the rest of the walk is stored
-going-ends : (s w₀ w : List ℕ) (place used : ℕ) (rest : Walked) (v : Verdict) (w' : List ℕ) → Going s w₀ w place used
+storing-ends : (s w₀ w : List ℕ) (place used : ℕ) (rest : Walked) (v : Verdict) (w' : List ℕ) → Storing s w₀ w place used
     → WORDS ≤ length w₀ → length (all s .rows) ≤ LIMIT → from s used place ≡ rest → Finishes used rest w v w'
     → Lists ownSize s w₀ v w'
-going-ends s w₀ w place used rest v w' g l few q f =
+storing-ends s w₀ w place used rest v w' g l few q f =
     record {
       verdict = f .verdict ∙ ap (λ (x : Walked). x .end) (sym q) ∙ g .end;
       words =
@@ -164,24 +164,24 @@ one-row (Last e) = omega arith
 one-row (Cut e) = omega arith
 one-row (Stop r) = omega arith
 
-pub going-stop : (s w₀ w : List ℕ) (place used : ℕ) (found : Step) (v : Verdict) (w' : List ℕ) → Going s w₀ w place used
+pub storing-stop : (s w₀ w : List ℕ) (place used : ℕ) (found : Step) (v : Verdict) (w' : List ℕ) → Storing s w₀ w place used
     → WORDS ≤ length w₀ → used < LIMIT → found ≡ stepOn ownSize s place
     → ((rest : ℕ → Walked) → walkAfter found rest ≡ walkAfter found full) → Finishes used (walkAfter found full) w v w'
     → Lists ownSize s w₀ v w'
-going-stop s w₀ w place used found v w' g l u p q f =
+storing-stop s w₀ w place used found v w' g l u p q f =
     let rest : ℕ → Walked = walk ownSize s (LIMIT - (used + 1)) in
     let k = step-walks s place used (g .due) u ∙ ap (λ (x : Step). walkAfter x rest) (sym p) ∙ q rest in
-    going-ends s w₀ w place used _ v w' g l
+    storing-ends s w₀ w place used _ v w' g l
     (omega (arith, g .count, ap (λ (x : Walked). length (x .rows)) k, one-row found)) k f
 
 -- the table is full
-pub going-full : (s w₀ w : List ℕ) (place used : ℕ) → Going s w₀ w place used → WORDS ≤ length w₀ → LIMIT ≤ used
+pub storing-full : (s w₀ w : List ℕ) (place used : ℕ) → Storing s w₀ w place used → WORDS ≤ length w₀ → LIMIT ≤ used
     → Lists ownSize s w₀ (Refused TooMany) (set w 0 used)
 unfolding full rowsFrom
-going-full s w₀ w place used g l u =
+storing-full s w₀ w place used g l u =
     let p : LIMIT - used ≡ 0 = omega arith in
     let k = ap (λ (n : ℕ). walk ownSize s n (place - 8)) p ∙ walk-full ownSize s (place - 8) (omega (arith, g .due .start, g .due .whole)) in
-    going-ends s w₀ w place used _ _ _ g l (omega (arith, g .few, g .count, ap (λ (x : Walked). length (x .rows)) k)) k
+    storing-ends s w₀ w place used _ _ _ g l (omega (arith, g .few, g .count, ap (λ (x : Walked). length (x .rows)) k)) k
     (record { verdict = refl; words = ap (set w 0) (sym (add-zero used)) })
 
 -- no whole header at byte 12

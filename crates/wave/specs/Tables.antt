@@ -25,7 +25,7 @@ EndToEnd at (e ∷ es) len = (e .place ≡ at + 8) × EndToEnd (past e) es len
 
 -- Of a file that the scan accepts:
 pub record GoodTable (s : List ℕ) (a : Scan) : Type 0 where
-  -- "at most 64 chunks"; the table in file order, from byte 12 to the end of the file
+  -- "a 65th header" is refused; the table in file order, from byte 12 to the end of the file
   pub most : length (a .rows) ≤ LIMIT
   pub endToEnd : EndToEnd 12 (a .rows) (length s)
   -- each row has the name that its header has, and lies inside the file with its pad

@@ -4,7 +4,7 @@
 // chunk::Table has them. Nothing is asked of the bytes or of the words.
 pub mod listing;
 mod rows;
-pub mod tally;
+mod tally;
 
 use chunk::Refusal;
 use chunk::Table;

@@ -15,7 +15,7 @@ use Rattle.chunk.specs.Tables.{LIMIT}
 use Rattle.chunk.specs.Walks.{Walked}
 use Rattle.chunk.specs.Contracts.{walkAfter, full}
 use Rattle.chunk.proofs.Step.{the-type}
-use Rattle.wave.proofs.Stored.{Going, going-start, going-next, going-stop, going-full, finish-same}
+use Rattle.wave.proofs.Stored.{Storing, storing-start, storing-next, storing-stop, storing-full, finish-same}
 use Rattle.wave.proofs.rows.walk32.Statement.{statement}
 use Rattle.wave.proofs.rows.walk32.Tie as tie
 
@@ -28,13 +28,13 @@ no-chunk (Cut e) k rest = refl
 no-chunk (Stop r) k rest = refl
 
 abbrev Inv-loop : tie.InvT-loop
-Inv-loop file words₀ place₀ used₀ words place used = Going file words₀ words place used
+Inv-loop file words₀ place₀ used₀ words place used = Storing file words₀ words place used
 
 abbrev μ-loop : tie.MeasureT-loop
 μ-loop file words₀ place₀ used₀ words place used = LIMIT - used
 
 loop-holds : tie.Need-loop-holds Inv-loop μ-loop
-loop-holds c = going-start _ _ (c .before .before .pre .0)
+loop-holds c = storing-start _ _ (c .before .before .pre .0)
 
 step32-requires : tie.Need-step32-requires Inv-loop μ-loop
 step32-requires c κs = c .before .loop .inv .due
@@ -50,7 +50,7 @@ same-length c = finish-same _ _ _ _ _ (c .before .before .finish .ensures) ∙ c
 
 returns : tie.Need-returns Inv-loop μ-loop
 returns c =
-    going-stop _ _ _ _ _ _ _ _ (c .before .before .before .before .before .before .before .loop .inv) (c .before .before .before .before .before .before .before .before .before .before .pre .1) (c .before .before .before .before .before .before .loop-test .taken) (c .before .before .before .before .before .step32 .ensures) (no-chunk _ (c .before .before .before .before .match .keys2))
+    storing-stop _ _ _ _ _ _ _ _ (c .before .before .before .before .before .before .before .loop .inv) (c .before .before .before .before .before .before .before .before .before .before .pre .1) (c .before .before .before .before .before .before .loop-test .taken) (c .before .before .before .before .before .step32 .ensures) (no-chunk _ (c .before .before .before .before .match .keys2))
     (c .before .before .finish .ensures)
 
 mul-put-row : tie.Need-mul-put-row Inv-loop μ-loop
@@ -70,7 +70,7 @@ loop-less c = omega (arith, c .before .before .before .before .before .before .b
 
 loop-again : tie.Need-loop-again Inv-loop μ-loop
 loop-again c =
-    going-next _ _ _ _ _ _ _ _ (c .before .before .before .before .before .before .before .before .before .loop .inv) (c .before .before .before .before .before .before .before .before .loop-test .taken) (sym (c .before .before .before .before .before .before .before .step32 .ensures) ∙ c .before .before .before .before .before .found .given .1)
+    storing-next _ _ _ _ _ _ _ _ (c .before .before .before .before .before .before .before .before .before .loop .inv) (c .before .before .before .before .before .before .before .before .loop-test .taken) (sym (c .before .before .before .before .before .before .before .step32 .ensures) ∙ c .before .before .before .before .before .found .given .1)
     (c .before .before .put-row .ensures)
 
 slice-write-words : tie.Need-slice-write-words Inv-loop μ-loop
@@ -80,7 +80,7 @@ same-length-2 : tie.Need-same-length-2 Inv-loop μ-loop
 same-length-2 c = simp length-set (c .before .loop .inv .same)
 
 returns-2 : tie.Need-returns-2 Inv-loop μ-loop
-returns-2 c = going-full _ _ _ _ _ (c .before .loop .inv) (c .before .before .before .before .pre .1) (omega (arith, c .loop-test .left))
+returns-2 c = storing-full _ _ _ _ _ (c .before .loop .inv) (c .before .before .before .before .pre .1) (omega (arith, c .loop-test .left))
 
 pub walk32-spec : {M : Type 1} → statement M
 walk32-spec =
