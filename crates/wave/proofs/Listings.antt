@@ -24,7 +24,7 @@ use Rattle.chunk.specs.Walks.{Walked, past, walk}
 use Rattle.chunk.specs.Contracts.{headerOf}
 use Rattle.chunk.proofs.Checks.{picked, pick-true, pick-false, check-true, check-false, andThen-at, andThen-refused}
 use Rattle.chunk.proofs.Turns.{step-cut}
-use Rattle.chunk.proofs.Laid.{Row, step-row, step-end, walk-chunk, walk-stop, laid-lies}
+use Rattle.chunk.proofs.Laid.{Row, step-row, step-end, walk-chunk, walk-stop, walk-laid, laid-lies}
 use Rattle.chunk.proofs.Finds.{found}
 use Rattle.form.specs.declared.Form.{Form}
 use Rattle.form.specs.declared.Form.the-variants.{Riff, Rf64, Bw64}
@@ -174,28 +174,28 @@ refused-told first n t w r = go (w .rows) (w .end)
     go rows (Refused q) e = cc
 
 -- check 10 of all chunks is check 10 of their tally
-chunks-all : (s : List ℕ) (h : Head) (rows : List Entry)
+chunks-all : (s : List ℕ) (h : Head) (rows : List Entry) → length rows ≤ LIMIT
     → chunksAs h (record { tally = allNoted noTally rows; first = headerOf (placeOf (h .form) s) s; count = length rows })
     ≡ listedAs s (check (chunksGood rows) BadChunkSet (given (record { head = h; rows = rows })))
 unfolding chunksAs listedAs keptOf
-chunks-all s h rows = go (chunksGood rows) refl
+chunks-all s h rows few = go (chunksGood rows) refl
   where
     go : (b : Bool) → chunksGood rows ≡ b
         → chunksAs h (record { tally = allNoted noTally rows; first = headerOf (placeOf (h .form) s) s; count = length rows })
         ≡ listedAs s (check (chunksGood rows) BadChunkSet (given (record { head = h; rows = rows })))
     go false g =
-        pick-false (tallyGood (allNoted noTally rows)) _ _ (tally-good rows ∙ g)
+        pick-false (tallyGood (allNoted noTally rows)) _ _ (tally-good rows few ∙ g)
         ∙ sym (ap (listedAs s) (check-false (chunksGood rows) BadChunkSet _ g))
     go true g =
         let c = good-chunked rows g in
-        pick-true (tallyGood (allNoted noTally rows)) _ _ (tally-good rows ∙ g)
+        pick-true (tallyGood (allNoted noTally rows)) _ _ (tally-good rows few ∙ g)
         ∙ (λ i. listed.Listing
         (record {
           head = h;
           first = headerOf (placeOf (h .form) s) s;
           fmt = all-fmt rows (c .oneFmt) i;
           audio = all-audio rows (c .oneData) i;
-          fact = tally-fact rows (c .fact) i;
+          fact = tally-fact rows few (c .fact) i;
           count = length rows;
         }))
         ∙ sym (ap (listedAs s) (check-true (chunksGood rows) BadChunkSet (given (record { head = h; rows = rows })) g))
@@ -203,6 +203,10 @@ chunks-all s h rows = go (chunksGood rows) refl
 -- ---- the outcomes of the listing past its head
 
 module _ (s : List ℕ) (o : Start) (b : Starts s (headOf s) o) where
+  few : headers (o .head) s .end ≡ Accepted → length (headers (o .head) s .rows) ≤ LIMIT
+  unfolding headers
+  few e = walk-laid (rule (o .head) s) s LIMIT 12 e .few
+
   pub list-refused : (first : Header) (n : ℕ) (r : Refusal) → tallyAs first n noTally (restOf o s) ≡ tallied.Refused r
       → listing s ≡ refused r
   list-refused first n r e =
@@ -216,7 +220,7 @@ module _ (s : List ℕ) (o : Start) (b : Starts s (headOf s) o) where
       ap (chunksAs (o .head))
       (t .is
       ∙ (λ i. record { tally = sym (k .tally) i; first = headerOf ((b .place) i) s; count = sym (k .count) i }))
-      ∙ chunks-all s (o .head) (headers (o .head) s .rows)
+      ∙ chunks-all s (o .head) (headers (o .head) s .rows) (few (k .end ∙ t .end))
       ∙ sym (ap (listedAs s) (listing-rows s (o .head) (b .head) (k .end ∙ t .end)))
 
   -- no header past ds64
@@ -229,7 +233,7 @@ module _ (s : List ℕ) (o : Start) (b : Starts s (headOf s) o) where
       let rows = headers (o .head) s .rows in
       listing-rows s (o .head) (b .head) (k .end ∙ ap (λ (w : Walked). w .end) e)
       ∙ check-false (chunksGood rows) BadChunkSet _
-      (sym (tally-good rows) ∙ ap tallyGood (k .tally) ∙ ap (λ (w : Walked). tallyGood (allNoted noTally (w .rows))) e)
+      (sym (tally-good rows (few (k .end ∙ ap (λ (w : Walked). w .end) e))) ∙ ap tallyGood (k .tally) ∙ ap (λ (w : Walked). tallyGood (allNoted noTally (w .rows))) e)
 
   -- 1 to 7 bytes past ds64
   list-cut : o .place - 8 < length s → length s < o .place → listing s ≡ refused CutHeader

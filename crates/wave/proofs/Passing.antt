@@ -5,11 +5,11 @@
 use mathlib.Core.Path.{_≡_, refl, sym, ap, _∙_, subst}
 use mathlib.Core.Bool.{Bool, true, false, not, _&&_}
 use mathlib.Core.List.{List, _∷_}
-use Prim.Native.Nat.{ℕ, zero, suc, _+_, _-_, _*_, _%_, _≤_, _<_}
+use Prim.Native.Nat.{ℕ, zero, suc, _+_, _-_, _*_, _/_, _%_, _^_, _≤_, _<_}
 use native.Mathlib.Omega.{arith}
 use lib.ListN.{length, getD}
 use lib.Dec.{eqb, ltb, leb}
-use borrow.Author.Tests.{eq-eqb, ne-eqb, lt-ltb, le-ltb, le-leb, lt-leb, eqb-false, leb-true, not-true}
+use borrow.Author.Tests.{eq-eqb, ne-eqb, lt-ltb, le-ltb, le-leb, lt-leb, leb-true, not-true}
 use Rattle.le.specs.Number.{Bytes, number}
 use Rattle.le.specs.Choice.{pick}
 use Rattle.le.proofs.Laws.{number-split, number-one}
@@ -27,7 +27,7 @@ use Rattle.chunk.specs.Names.{FMT, DATA, FACT, BEXT, CHNA, DS64}
 use Rattle.chunk.specs.Fields.{ONES}
 use Rattle.chunk.specs.Tables.{LIMIT}
 use Rattle.chunk.specs.Walks.{Rule, Walked, walk, entryOf, past}
-use Rattle.chunk.specs.Contracts.{Due, endsAt, placedIn, foundAs, stepOn, walkAfter, full}
+use Rattle.chunk.specs.Contracts.{endsAt, placedIn, foundAs, stepOn, walkAfter, full}
 use Rattle.chunk.proofs.Checks.{pick-true, pick-false, true-false, rule-and, picked}
 use Rattle.chunk.proofs.Turns.{placed-whole, turn, turn-due, walk-full}
 use Rattle.form.specs.declared.Head.{Head}
@@ -40,25 +40,23 @@ use Rattle.wave.specs.declared.tally.Payload.{Payload}
 use Rattle.wave.specs.declared.tally.Tally.{Tally}
 use Rattle.wave.specs.declared.listing.Passed.{Passed}
 use Rattle.wave.specs.declared.listing.Tallied.the-variants as tallied
-use Rattle.wave.specs.Contracts.{payloadOf, weight, changes, noted, allNoted, noTally, Small, tallyGood, nextOf, passes, passedFrom, rule, Begins, tallyAs}
+use Rattle.wave.specs.Contracts.{payloadOf, changes, counts, heavy, weight, noted, allNoted, noTally, Small, factsOf, tallyGood, Near, nextOf, passes, passedFrom, Nears, rule, Begins, tallyAs}
 
 -- ---- one chunk more
 
-abbrev made : (fmts datas facts bexts chnas : ℕ) (fmt audio : Payload) (fact : ℕ) → Tally
-made fmts datas facts bexts chnas fmt audio fact =
-    record { fmts = fmts; datas = datas; facts = facts; bexts = bexts; chnas = chnas; fmt = fmt; audio = audio; fact = fact }
+abbrev made : (met : ℕ) (fmt audio : Payload) (fact : ℕ) → Tally
+made met fmt audio fact = record { met = met; fmt = fmt; audio = audio; fact = fact }
 
 module _ (t : Tally) (e : Entry) where
   -- the tally by which of the names the chunk has
   by : Bool → Bool → Bool → Bool → Bool → Tally
   by a b c d f =
-      made (pick a (t .fmts + 1) (t .fmts)) (pick b (t .datas + 1) (t .datas)) (pick c (t .facts + weight e) (t .facts))
-      (pick d (t .bexts + 1) (t .bexts)) (pick f (t .chnas + 1) (t .chnas))
+      made (t .met + (pick a 1 0 + 2 ^ 8 * pick b 1 0 + 2 ^ 16 * pick c (heavy e) 0 + 2 ^ 24 * pick d 1 0 + 2 ^ 32 * pick f 1 0))
       (pick a (payloadOf e) (t .fmt)) (pick b (payloadOf e) (t .audio)) (pick c (e .place) (t .fact))
 
   noted-by : (a b c d f : Bool) → eqb (e .name) FMT ≡ a → eqb (e .name) DATA ≡ b → eqb (e .name) FACT ≡ c → eqb (e .name) BEXT ≡ d
       → eqb (e .name) CHNA ≡ f → noted t e ≡ by a b c d f
-  unfolding noted changes by
+  unfolding noted weight counts changes by
   noted-by a b c d f p q r u v = λ i. by (p i) (q i) (r i) (u i) (v i)
 
   is : (name : ℕ) → e .name ≡ name → eqb (e .name) name ≡ true
@@ -67,53 +65,42 @@ module _ (t : Tally) (e : Entry) where
   other : (name : ℕ) → (e .name ≡ name → ⊥) → eqb (e .name) name ≡ false
   other name n = ne-eqb (e .name) name n
 
-  pub note-fmt : e .name ≡ FMT
-      → made (t .fmts + 1) (t .datas) (t .facts) (t .bexts) (t .chnas) (payloadOf e) (t .audio) (t .fact) ≡ noted t e
+  pub note-fmt : e .name ≡ FMT → made (t .met + 1) (payloadOf e) (t .audio) (t .fact) ≡ noted t e
   unfolding by pick payloadOf
   note-fmt p =
       sym (noted-by true false false false false (is FMT p) (other DATA (omega (arith, p))) (other FACT (omega (arith, p)))
       (other BEXT (omega (arith, p))) (other CHNA (omega (arith, p))))
 
-  pub note-data : e .name ≡ DATA
-      → made (t .fmts) (t .datas + 1) (t .facts) (t .bexts) (t .chnas) (t .fmt) (payloadOf e) (t .fact) ≡ noted t e
+  pub note-data : e .name ≡ DATA → made (t .met + 2 ^ 8) (t .fmt) (payloadOf e) (t .fact) ≡ noted t e
   unfolding by pick payloadOf
   note-data p =
       sym (noted-by false true false false false (other FMT (omega (arith, p))) (is DATA p) (other FACT (omega (arith, p)))
       (other BEXT (omega (arith, p))) (other CHNA (omega (arith, p))))
 
-  -- a fact counts as much as it weighs
-  noted-fact : (n : ℕ) → e .name ≡ FACT → weight e ≡ n
-      → made (t .fmts) (t .datas) (t .facts + n) (t .bexts) (t .chnas) (t .fmt) (t .audio) (e .place) ≡ noted t e
+  -- a fact counts once, or twice
+  noted-fact : (m : ℕ) → e .name ≡ FACT → m ≡ t .met + 2 ^ 16 * heavy e → made m (t .fmt) (t .audio) (e .place) ≡ noted t e
   unfolding by pick
-  noted-fact n p w =
-      ap
-      (λ (k : ℕ). made (t .fmts) (t .datas) (t .facts + k) (t .bexts) (t .chnas) (t .fmt) (t .audio) (e .place)) (sym w)
+  noted-fact m p w =
+      let k : m ≡ t .met + (0 + 2 ^ 8 * 0 + 2 ^ 16 * heavy e + 2 ^ 24 * 0 + 2 ^ 32 * 0) = omega (arith, w) in
+      ap (λ (n : ℕ). made n (t .fmt) (t .audio) (e .place)) k
       ∙ sym (noted-by false false true false false (other FMT (omega (arith, p))) (other DATA (omega (arith, p))) (is FACT p)
       (other BEXT (omega (arith, p))) (other CHNA (omega (arith, p))))
 
-  pub note-fact : e .name ≡ FACT → 4 ≤ e .size
-      → made (t .fmts) (t .datas) (t .facts + 1) (t .bexts) (t .chnas) (t .fmt) (t .audio) (e .place) ≡ noted t e
-  unfolding weight
-  note-fact p h = noted-fact 1 p (pick-false _ _ _ (le-ltb (e .size) 4 h))
+  pub note-fact : e .name ≡ FACT → 4 ≤ e .size → made (t .met + 2 ^ 16) (t .fmt) (t .audio) (e .place) ≡ noted t e
+  unfolding heavy
+  note-fact p h = let k : heavy e ≡ 1 = pick-false _ _ _ (le-ltb (e .size) 4 h) in noted-fact _ p (omega (arith, k))
 
-  pub note-short : e .name ≡ FACT → e .size < 4
-      → made (t .fmts) (t .datas) (t .facts + 1 + 1) (t .bexts) (t .chnas) (t .fmt) (t .audio) (e .place) ≡ noted t e
-  unfolding weight
-  note-short p h =
-      let q : t .facts + 1 + 1 ≡ t .facts + 2 = omega arith in
-      ap
-      (λ (k : ℕ). made (t .fmts) (t .datas) k (t .bexts) (t .chnas) (t .fmt) (t .audio) (e .place)) q
-      ∙ noted-fact 2 p (pick-true _ _ _ (lt-ltb (e .size) 4 h))
+  pub note-short : e .name ≡ FACT → e .size < 4 → made (t .met + 2 ^ 16 + 2 ^ 16) (t .fmt) (t .audio) (e .place) ≡ noted t e
+  unfolding heavy
+  note-short p h = let k : heavy e ≡ 2 = pick-true _ _ _ (lt-ltb (e .size) 4 h) in noted-fact _ p (omega (arith, k))
 
-  pub note-bext : e .name ≡ BEXT
-      → made (t .fmts) (t .datas) (t .facts) (t .bexts + 1) (t .chnas) (t .fmt) (t .audio) (t .fact) ≡ noted t e
+  pub note-bext : e .name ≡ BEXT → made (t .met + 2 ^ 24) (t .fmt) (t .audio) (t .fact) ≡ noted t e
   unfolding by pick
   note-bext p =
       sym (noted-by false false false true false (other FMT (omega (arith, p))) (other DATA (omega (arith, p)))
       (other FACT (omega (arith, p))) (is BEXT p) (other CHNA (omega (arith, p))))
 
-  pub note-chna : e .name ≡ CHNA
-      → made (t .fmts) (t .datas) (t .facts) (t .bexts) (t .chnas + 1) (t .fmt) (t .audio) (t .fact) ≡ noted t e
+  pub note-chna : e .name ≡ CHNA → made (t .met + 2 ^ 32) (t .fmt) (t .audio) (t .fact) ≡ noted t e
   unfolding by pick
   note-chna p =
       sym (noted-by false false false false true (other FMT (omega (arith, p))) (other DATA (omega (arith, p)))
@@ -124,122 +111,100 @@ module _ (t : Tally) (e : Entry) where
       → t ≡ noted t e
   unfolding by pick
   note-none a b c d f =
-      sym (noted-by false false false false false (other FMT a) (other DATA b) (other FACT c) (other BEXT d) (other CHNA f))
+      let k : t .met ≡ t .met + 0 = omega arith in
+      ap (λ (n : ℕ). made n (t .fmt) (t .audio) (t .fact)) k
+      ∙ sym (noted-by false false false false false (other FMT a) (other DATA b) (other FACT c) (other BEXT d) (other CHNA f))
 
 -- ---- check 10, test by test
 
 module _ (t : Tally) where
-  pub no-fmt : (t .fmts ≡ 1 → ⊥) → false ≡ tallyGood t
+  pub no-pair : (t .met % 2 ^ 16 ≡ 1 + 2 ^ 8 → ⊥) → false ≡ tallyGood t
   unfolding tallyGood
-  no-fmt a = sym (pick-false _ _ _ (ne-eqb (t .fmts) 1 a))
+  no-pair a = sym (pick-false _ _ _ (ne-eqb (t .met % 2 ^ 16) (1 + 2 ^ 8) a))
 
-  module _ (a : t .fmts ≡ 1) where
-    pub no-data : (t .datas ≡ 1 → ⊥) → false ≡ tallyGood t
+  module _ (a : t .met % 2 ^ 16 ≡ 1 + 2 ^ 8) where
+    pub no-order : t .audio .place ≤ t .fmt .place → false ≡ tallyGood t
     unfolding tallyGood
-    no-data b = rw (eq-eqb (t .fmts) 1 a, ne-eqb (t .datas) 1 b)
+    no-order c = rw (eq-eqb (t .met % 2 ^ 16) (1 + 2 ^ 8) a, le-ltb (t .fmt .place) (t .audio .place) c)
 
-    module _ (b : t .datas ≡ 1) where
-      pub no-order : t .audio .place ≤ t .fmt .place → false ≡ tallyGood t
+    module _ (c : t .fmt .place < t .audio .place) where
+      pub no-bext : 1 < t .met / 2 ^ 24 % 2 ^ 8 → false ≡ tallyGood t
       unfolding tallyGood
-      no-order c = rw (eq-eqb (t .fmts) 1 a, eq-eqb (t .datas) 1 b, le-ltb (t .fmt .place) (t .audio .place) c)
+      no-bext d =
+          rw (
+            eq-eqb (t .met % 2 ^ 16) (1 + 2 ^ 8) a,
+            lt-ltb (t .fmt .place) (t .audio .place) c,
+            lt-leb (t .met / 2 ^ 24 % 2 ^ 8) 1 d,
+          )
 
-      module _ (c : t .fmt .place < t .audio .place) where
-        pub no-bext : 1 < t .bexts → false ≡ tallyGood t
+      module _ (d : t .met / 2 ^ 24 % 2 ^ 8 ≤ 1) where
+        pub no-chna : 1 < t .met / 2 ^ 32 → false ≡ tallyGood t
         unfolding tallyGood
-        no-bext d =
-            rw (eq-eqb (t .fmts) 1 a, eq-eqb (t .datas) 1 b, lt-ltb (t .fmt .place) (t .audio .place) c, lt-leb (t .bexts) 1 d)
+        no-chna f =
+            rw (
+              eq-eqb (t .met % 2 ^ 16) (1 + 2 ^ 8) a,
+              lt-ltb (t .fmt .place) (t .audio .place) c,
+              le-leb (t .met / 2 ^ 24 % 2 ^ 8) 1 d,
+              lt-leb (t .met / 2 ^ 32) 1 f,
+            )
 
-        module _ (d : t .bexts ≤ 1) where
-          pub no-chna : 1 < t .chnas → false ≡ tallyGood t
-          unfolding tallyGood
-          no-chna f =
-              rw (
-                eq-eqb (t .fmts) 1 a,
-                eq-eqb (t .datas) 1 b,
-                lt-ltb (t .fmt .place) (t .audio .place) c,
-                le-leb (t .bexts) 1 d,
-                lt-leb (t .chnas) 1 f,
-              )
-
-          pub by-fact : t .chnas ≤ 1 → leb (t .facts) 1 ≡ tallyGood t
-          unfolding tallyGood
-          by-fact f =
-              rw (
-                eq-eqb (t .fmts) 1 a,
-                eq-eqb (t .datas) 1 b,
-                lt-ltb (t .fmt .place) (t .audio .place) c,
-                le-leb (t .bexts) 1 d,
-                le-leb (t .chnas) 1 f,
-              ) (only (leb (t .facts) 1))
-            where
-              only : (k : Bool) → k ≡ pick k true false
-              only true = refl
-              only false = refl
+        pub by-fact : t .met / 2 ^ 32 ≤ 1 → leb (factsOf t) 1 ≡ tallyGood t
+        unfolding tallyGood
+        by-fact f =
+            rw (
+              eq-eqb (t .met % 2 ^ 16) (1 + 2 ^ 8) a,
+              lt-ltb (t .fmt .place) (t .audio .place) c,
+              le-leb (t .met / 2 ^ 24 % 2 ^ 8) 1 d,
+              le-leb (t .met / 2 ^ 32) 1 f,
+            ) (only (leb (factsOf t) 1))
+          where
+            only : (k : Bool) → k ≡ pick k true false
+            only true = refl
+            only false = refl
 
 -- ---- counts are small
 
+-- after n chunks
 pub record Below (n : ℕ) (t : Tally) : Type 0 where
-  pub fmts : t .fmts ≤ n
-  pub datas : t .datas ≤ n
-  pub facts : t .facts ≤ n
-  pub bexts : t .bexts ≤ n
-  pub chnas : t .chnas ≤ n
+  pub met : t .met ≤ 2 ^ 33 * n
 
 pub below-none : (n : ℕ) → Below n noTally
 unfolding noTally
-below-none n = record { fmts = omega arith; datas = omega arith; facts = omega arith; bexts = omega arith; chnas = omega arith }
+below-none n = record { met = omega arith }
 
 pub below-more : (m n : ℕ) (t : Tally) → m ≤ n → Below m t → Below n t
-below-more m n t h b =
-    record {
-      fmts = omega (arith, b .fmts);
-      datas = omega (arith, b .datas);
-      facts = omega (arith, b .facts);
-      bexts = omega (arith, b .bexts);
-      chnas = omega (arith, b .chnas);
-    }
+below-more m n t h b = record { met = omega (arith, b .met) }
 
-pub below-small : (n : ℕ) (t : Tally) → n ≤ 2 * LIMIT → Below n t → Small t
-below-small n t h b =
-    record {
-      fmts = omega (arith, b .fmts);
-      datas = omega (arith, b .datas);
-      facts = omega (arith, b .facts);
-      bexts = omega (arith, b .bexts);
-      chnas = omega (arith, b .chnas);
-    }
+pub below-small : (n : ℕ) (t : Tally) → n ≤ LIMIT → Below n t → Small t
+below-small n t h b = record { met = omega (arith, b .met) }
 
--- one chunk more adds at most 2
-pub below-noted : (n : ℕ) (t : Tally) (e : Entry) → Below n t → Below (n + 2) (noted t e)
-unfolding noted changes weight
+-- one chunk more
+pub below-noted : (n : ℕ) (t : Tally) (e : Entry) → Below n t → Below (n + 1) (noted t e)
+unfolding noted weight heavy counts changes
 below-noted n t e b =
     record {
-      fmts = one FMT (t .fmts) (b .fmts);
-      datas = one DATA (t .datas) (b .datas);
-      facts = most FACT (t .facts) (weight e) (b .facts) light;
-      bexts = one BEXT (t .bexts) (b .bexts);
-      chnas = one CHNA (t .chnas) (b .chnas);
+      met =
+          omega (
+            arith,
+            b .met,
+            most FMT 1,
+            most DATA 1,
+            most FACT (heavy e),
+            picked (λ (k : ℕ). k ≤ 2) (ltb (e .size) 4) 2 1 (λ _. omega arith) (λ _. omega arith),
+            most BEXT 1,
+            most CHNA 1,
+          );
     }
   where
-    P : ℕ → Type 0
-    P k = k ≤ n + 2
-
-    light : weight e ≤ 2
-    light = picked (λ (k : ℕ). k ≤ 2) (ltb (e .size) 4) _ _ (λ _. omega arith) (λ _. omega arith)
-
-    most : (name k w : ℕ) → k ≤ n → w ≤ 2 → changes name e (k + w) k ≤ n + 2
-    most name k w h l = picked P (eqb (e .name) name) _ _ (λ _. omega arith) (λ _. omega arith)
-
-    one : (name k : ℕ) → k ≤ n → changes name e (k + 1) k ≤ n + 2
-    one name k h = most name k 1 h (omega arith)
+    most : (name n : ℕ) → counts name n e ≤ n
+    most name n = picked (λ (k : ℕ). k ≤ n) (eqb (e .name) name) _ _ (λ _. omega arith) (λ _. omega arith)
 
 -- ---- a chunk that is passed
 
 -- what the test tells
-pub record Passes (place : ℕ) (s : List ℕ) : Type 0 where
-  pub own : number 4 (place - 4) s ≡ ONES → ⊥
+pub record Passes (near place : ℕ) (s : List ℕ) : Type 0 where
   pub letter : 98 ≤ getD s (place - 8) 0 → getD s (place - 8) 0 ≤ 102 → ⊥
-  pub inside : nextOf place s ≤ length s
+  pub inside : nextOf place s ≤ near
 
 between : (l : ℕ) → (98 ≤ l → l ≤ 102 → ⊥) → leb 98 l && leb l 102 ≡ false
 between l h = go (leb 98 l) refl
@@ -252,71 +217,74 @@ between l h = go (leb 98 l) refl
         out false q = refl
     go false p = refl
 
-pub pass-ones : (place : ℕ) (s : List ℕ) → number 4 (place - 4) s ≡ ONES → passes place s ≡ false
+pub pass-letter : (near place : ℕ) (s : List ℕ) → 98 ≤ getD s (place - 8) 0 → getD s (place - 8) 0 ≤ 102 → passes near place s ≡ false
 unfolding passes
-pass-ones place s h = pick-false _ _ _ (ap not (eq-eqb _ _ h))
+pass-letter near place s h k = rw (le-leb 98 (getD s (place - 8) 0) h, le-leb (getD s (place - 8) 0) 102 k)
 
-pub pass-letter : (place : ℕ) (s : List ℕ) → (number 4 (place - 4) s ≡ ONES → ⊥) → 98 ≤ getD s (place - 8) 0 → getD s (place - 8) 0 ≤ 102
-    → passes place s ≡ false
+pub pass-end : (near place : ℕ) (s : List ℕ) → (98 ≤ getD s (place - 8) 0 → getD s (place - 8) 0 ≤ 102 → ⊥) → near < nextOf place s
+    → passes near place s ≡ false
 unfolding passes
-pass-letter place s n h k = rw (ne-eqb (number 4 (place - 4) s) ONES n, le-leb 98 (getD s (place - 8) 0) h, le-leb (getD s (place - 8) 0) 102 k)
+pass-end near place s l h = rw (between (getD s (place - 8) 0) l, lt-leb (nextOf place s) near h)
 
-pub pass-end : (place : ℕ) (s : List ℕ) → (number 4 (place - 4) s ≡ ONES → ⊥) → (98 ≤ getD s (place - 8) 0 → getD s (place - 8) 0 ≤ 102 → ⊥)
-    → length s < nextOf place s → passes place s ≡ false
+pub pass-true : (near place : ℕ) (s : List ℕ) → Passes near place s → passes near place s ≡ true
 unfolding passes
-pass-end place s n l h = rw (ne-eqb (number 4 (place - 4) s) ONES n, between (getD s (place - 8) 0) l, lt-leb (nextOf place s) (length s) h)
+pass-true near place s p = rw (between (getD s (place - 8) 0) (p .letter), le-leb (nextOf place s) near (p .inside))
 
-pub pass-true : (place : ℕ) (s : List ℕ) → Passes place s → passes place s ≡ true
+true-pass : (near place : ℕ) (s : List ℕ) → passes near place s ≡ true → Passes near place s
 unfolding passes
-pass-true place s p =
-    rw (
-      ne-eqb (number 4 (place - 4) s) ONES (p .own),
-      between (getD s (place - 8) 0) (p .letter),
-      le-leb (nextOf place s) (length s) (p .inside),
-    )
-
-pub true-pass : (place : ℕ) (s : List ℕ) → passes place s ≡ true → Passes place s
-unfolding passes
-true-pass place s e =
-    let c1 = rule-and (not (eqb (number 4 (place - 4) s) ONES)) _ e in
-    let c2 = rule-and (not (leb 98 (getD s (place - 8) 0) && leb (getD s (place - 8) 0) 102)) _ (c1 .1) in
-    let c3 = rule-and (leb (nextOf place s) (length s)) _ (c2 .1) in
+true-pass near place s e =
+    let c1 = rule-and (not (leb 98 (getD s (place - 8) 0) && leb (getD s (place - 8) 0) 102)) _ e in
+    let c2 = rule-and (leb (nextOf place s) near) _ (c1 .1) in
     record {
-      own = eqb-false _ _ (not-true _ (c1 .0));
       letter = λ h k.
           true-false (leb 98 (getD s (place - 8) 0) && leb (getD s (place - 8) 0) 102)
-          (rw (le-leb 98 (getD s (place - 8) 0) h, le-leb (getD s (place - 8) 0) 102 k)) (not-true _ (c2 .0));
-      inside = leb-true _ _ (c3 .0);
+          (rw (le-leb 98 (getD s (place - 8) 0) h, le-leb (getD s (place - 8) 0) 102 k)) (not-true _ (c1 .0));
+      inside = leb-true _ _ (c2 .0);
     }
 
--- so a whole header follows
-pub next-due : (place : ℕ) (s : List ℕ) → Due s place → Passes place s → Due s (nextOf place s)
+-- its field is its size
+pass-own : (near place : ℕ) (s : List ℕ) → Nears s near place → Passes near place s → number 4 (place - 4) s ≡ ONES → ⊥
 unfolding nextOf
-next-due place s d p = record { start = omega arith; whole = p .inside; even = omega (arith, d .even) }
+pass-own near place s n p e = absurd (omega (arith, n .end .close, p .inside, e))
+
+-- what is near at a place is near further on
+pub near-on : (s : List ℕ) (near place to : ℕ) → place ≤ to → Near (length s) place near → Near (length s) to near
+near-on s near place to h n = record { inside = n .inside; close = omega (arith, n .close) }
 
 pub next-on : (place : ℕ) (s : List ℕ) → place ≤ nextOf place s
 unfolding nextOf
 next-on place s = omega arith
 
+-- so a whole header follows
+pub next-due : (near place : ℕ) (s : List ℕ) → Nears s near place → Passes near place s → Nears s near (nextOf place s)
+unfolding nextOf
+next-due near place s d p =
+    record {
+      due = record { start = omega arith; whole = omega (arith, d .end .inside, p .inside); even = omega (arith, d .due .even) };
+      end = near-on s near place _ (next-on place s) (d .end);
+    }
+
 -- ---- the run of them
 
-pub passed-stay : (s : List ℕ) (room place : ℕ) → passes place s ≡ false → passedFrom s room place ≡ record { place = place; room = room }
-unfolding passedFrom
-passed-stay s zero place e = refl
-passed-stay s (suc room) place e = pick-false _ _ _ e
+module _ (s : List ℕ) (near : ℕ) where
+  pub passed-stay : (room place : ℕ) → passes near place s ≡ false → passedFrom s near room place ≡ record { place = place; room = room }
+  unfolding passedFrom
+  passed-stay zero place e = refl
+  passed-stay (suc room) place e = pick-false _ _ _ e
 
-pub passed-next : (s : List ℕ) (room place : ℕ) → passes place s ≡ true → passedFrom s (suc room) place ≡ passedFrom s room (nextOf place s)
-unfolding passedFrom
-passed-next s room place e = pick-true _ _ _ e
+  passed-next : (room place : ℕ) → passes near place s ≡ true → passedFrom s near (suc room) place ≡ passedFrom s near room (nextOf place s)
+  unfolding passedFrom
+  passed-next room place e = pick-true _ _ _ e
 
-pub passed-on : (s : List ℕ) (room place : ℕ) → 0 < room → passes place s ≡ true → passedFrom s room place ≡ passedFrom s (room - 1) (nextOf place s)
-passed-on s zero place h e = absurd (omega arith)
-passed-on s (suc room) place h e = passed-next s room place e ∙ ap (λ (k : ℕ). passedFrom s k (nextOf place s)) (omega arith)
+  pub passed-on : (room place : ℕ) → 0 < room → passes near place s ≡ true
+      → passedFrom s near room place ≡ passedFrom s near (room - 1) (nextOf place s)
+  passed-on zero place h e = absurd (omega arith)
+  passed-on (suc room) place h e = passed-next room place e ∙ ap (λ (k : ℕ). passedFrom s near k (nextOf place s)) (omega arith)
 
-pub passed-none : (s : List ℕ) (room place : ℕ) → room ≡ 0 → passedFrom s room place ≡ record { place = place; room = room }
-unfolding passedFrom
-passed-none s zero place e = refl
-passed-none s (suc room) place e = absurd (omega arith)
+  pub passed-none : (room place : ℕ) → room ≡ 0 → passedFrom s near room place ≡ record { place = place; room = room }
+  unfolding passedFrom
+  passed-none zero place e = refl
+  passed-none (suc room) place e = absurd (omega arith)
 
 -- ---- what a walk tallies
 
@@ -377,18 +345,19 @@ module _ (h : Head) (s : List ℕ) (b : Bytes s) where
       let x : getD s at 0 ≡ name % 256 = omega (arith, w, v, e, b at) in
       n (omega (arith, x)) (omega (arith, x))
 
-  module _ (place : ℕ) (d : Due s place) (p : Passes place s) where
+  module _ (near place : ℕ) (d : Nears s near place) (p : Passes near place s) where
     entry : Entry
     entry = entryOf place (number 4 (place - 8) s) (record { bytes = number 4 (place - 4) s })
 
     unnamed : (name : ℕ) → 98 ≤ name % 256 → name % 256 ≤ 102 → number 4 (place - 8) s ≡ name → ⊥
-    unnamed = starts (place - 8) (omega (arith, d .start, d .whole)) (p .letter)
+    unnamed = starts (place - 8) (omega (arith, d .due .start, d .due .whole)) (p .letter)
 
     passes-step : stepOn (rule h s) s place ≡ step.Chunk entry (nextOf place s)
     unfolding stepOn foundAs entry past nextOf
     passes-step =
-        ap (foundAs (length s) place (number 4 (place - 8) s)) (true-own h _ (place - 8) _ _ (unnamed DS64 (omega arith) (omega arith)) (p .own))
-        ∙ placed-whole (length s) entry (p .inside)
+        ap (foundAs (length s) place (number 4 (place - 8) s))
+        (true-own h _ (place - 8) _ _ (unnamed DS64 (omega arith) (omega arith)) (pass-own near place s d p))
+        ∙ placed-whole (length s) entry (omega (arith, p .inside, d .end .inside))
 
     passes-noted : (t : Tally) → noted t entry ≡ t
     unfolding entry
@@ -401,40 +370,41 @@ module _ (h : Head) (s : List ℕ) (b : Bytes s) where
         → tallyAs f n t (walk (rule h s) s (suc room) (place - 8)) ≡ tallyAs f (n + 1) t (walk (rule h s) s room (nextOf place s - 8))
     unfolding walkAfter
     passes-tally f n room t =
-        ap (tallyAs f n t) (turn (rule h s) s room place d ∙ ap (λ (x : Step). walkAfter x (walk (rule h s) s room)) passes-step)
+        ap (tallyAs f n t) (turn (rule h s) s room place (d .due) ∙ ap (λ (x : Step). walkAfter x (walk (rule h s) s room)) passes-step)
         ∙ tally-chunk f n t entry (walk (rule h s) s room (nextOf place s - 8))
         ∙ ap (λ (u : Tally). tallyAs f (n + 1) u (walk (rule h s) s room (nextOf place s - 8))) (passes-noted t)
 
   -- a run of them, where room headers more may come
-  pub record Skips (f : Header) (t : Tally) (room place : ℕ) (p : Passed) : Type 0 where
-    pub due : Due s (p .place)
+  pub record Skips (near : ℕ) (f : Header) (t : Tally) (room place : ℕ) (p : Passed) : Type 0 where
+    pub nears : Nears s near (p .place)
     pub on : place ≤ p .place
     pub few : p .room ≤ room
     pub same : tallyAs f (LIMIT - room) t (walk (rule h s) s room (place - 8))
         ≡ tallyAs f (LIMIT - p .room) t (walk (rule h s) s (p .room) (p .place - 8))
 
-  pub skips : (f : Header) (t : Tally) (room place : ℕ) → room ≤ LIMIT → Due s place → Skips f t room place (passedFrom s room place)
-  skips f t zero place l d =
-      subst (Skips f t zero place) (sym (passed-none s zero place refl))
-      (record { due = d; on = omega arith; few = omega arith; same = refl })
-  skips f t (suc room) place l d = go (λ (at : ℕ). skips f t room at (omega arith)) (passes place s) refl
+  pub skips : (near : ℕ) (f : Header) (t : Tally) (room place : ℕ) → room ≤ LIMIT → Nears s near place
+      → Skips near f t room place (passedFrom s near room place)
+  skips near f t zero place l d =
+      subst (Skips near f t zero place) (sym (passed-none s near zero place refl))
+      (record { nears = d; on = omega arith; few = omega arith; same = refl })
+  skips near f t (suc room) place l d = go (λ (at : ℕ). skips near f t room at (omega arith)) (passes near place s) refl
     where
-      go : ((at : ℕ) → Due s at → Skips f t room at (passedFrom s room at)) → (c : Bool) → passes place s ≡ c
-          → Skips f t (suc room) place (passedFrom s (suc room) place)
+      go : ((at : ℕ) → Nears s near at → Skips near f t room at (passedFrom s near room at)) → (c : Bool) → passes near place s ≡ c
+          → Skips near f t (suc room) place (passedFrom s near (suc room) place)
       go below false e =
-          subst (Skips f t (suc room) place) (sym (passed-stay s (suc room) place e))
-          (record { due = d; on = omega arith; few = omega arith; same = refl })
+          subst (Skips near f t (suc room) place) (sym (passed-stay s near (suc room) place e))
+          (record { nears = d; on = omega arith; few = omega arith; same = refl })
       go below true e =
-          let p = true-pass place s e in
-          let r = below (nextOf place s) (next-due place s d p) in
+          let p = true-pass near place s e in
+          let r = below (nextOf place s) (next-due near place s d p) in
           let k : LIMIT - suc room + 1 ≡ LIMIT - room = omega arith in
-          subst (Skips f t (suc room) place) (sym (passed-next s room place e))
+          subst (Skips near f t (suc room) place) (sym (passed-next s near room place e))
           (record {
-            due = r .due;
+            nears = r .nears;
             on = omega (arith, r .on, next-on place s);
             few = omega (arith, r .few);
             same =
-                passes-tally place d p f (LIMIT - suc room) room t
+                passes-tally near place d p f (LIMIT - suc room) room t
                 ∙ ap (λ (n : ℕ). tallyAs f n t (walk (rule h s) s room (nextOf place s - 8))) k
                 ∙ r .same;
           })
@@ -500,21 +470,23 @@ turn-on r s place e to q = go (r (place - 8) (number 4 (place - 8) s) (number 4 
         (λ _ p. absurd (let z : _≡_ {A = ℕ} 0 1 = cc in omega arith))) p
 
 -- what the walk from the start tallies is what the walk from here adds to this tally
-pub record Going (h : Head) (s : List ℕ) (f : Header) (place₀ room₀ place room : ℕ) (t : Tally) : Type 0 where
+pub record Going (h : Head) (s : List ℕ) (near : ℕ) (f : Header) (place₀ room₀ place room : ℕ) (t : Tally) : Type 0 where
   pub past : Past h s place
+  pub close : Near (length s) place near
   pub few : room ≤ LIMIT
-  pub below : Below (2 * (LIMIT - room)) t
+  pub below : Below (LIMIT - room) t
   pub same : tallyAs f (LIMIT - room) t (walk (rule h s) s room (place - 8))
       ≡ tallyAs f (LIMIT - room₀) noTally (walk (rule h s) s room₀ (place₀ - 8))
 
-pub going-start : (s : List ℕ) (o : Start) (f : Header) (t : Tally) → Begins s o → t ≡ noTally
-    → Going (o .head) s f (o .place) (o .room) (o .place) (o .room) t
-going-start s o f t b e =
+pub going-start : (s : List ℕ) (o : Start) (near : ℕ) (f : Header) (t : Tally) → Begins s o → Near (length s) (o .place) near → t ≡ noTally
+    → Going (o .head) s near f (o .place) (o .room) (o .place) (o .room) t
+going-start s o near f t b n e =
     let i = begins s o b in
-    subst (Going (o .head) s f (o .place) (o .room) (o .place) (o .room)) (sym e)
-    (record { past = i .past; few = i .few; below = below-none _; same = refl })
+    subst (Going (o .head) s near f (o .place) (o .room) (o .place) (o .room)) (sym e)
+    (record { past = i .past; close = n; few = i .few; below = below-none _; same = refl })
 
-module _ (h : Head) (s : List ℕ) (f : Header) (place₀ room₀ place room : ℕ) (t : Tally) (g : Going h s f place₀ room₀ place room t) where
+module _ (h : Head) (s : List ℕ) (near : ℕ) (f : Header) (place₀ room₀ place room : ℕ) (t : Tally)
+    (g : Going h s near f place₀ room₀ place room t) where
   -- a turn
   turned : 1 ≤ room → walk (rule h s) s room (place - 8) ≡ walkAfter (stepOn (rule h s) s place) (walk (rule h s) s (room - 1))
   turned k =
@@ -540,19 +512,33 @@ module _ (h : Head) (s : List ℕ) (f : Header) (place₀ room₀ place room : �
       (sym (walk-full (rule h s) s (place - 8) (omega (arith, d .start, d .whole))) ∙ ap (λ (n : ℕ). walk (rule h s) s n (place - 8)) (sym e))
       ∙ g .same
 
+  -- a chunk's next header is whole, and near the end as before
+  pub going-nears : (e : Entry) (to : ℕ) → stepOn (rule h s) s place ≡ step.Chunk e to → Nears s near to
+  going-nears e to q =
+      record {
+        due = turn-due (rule h s) s place e to (g .past .due .even) q;
+        end = near-on s near place to (turn-on (rule h s) s place e to q) (g .close);
+      }
+
   -- a chunk, and those that are passed after it
   pub going-next : (e : Entry) (to : ℕ) (u : Tally) (p : Passed) → Bytes s → 1 ≤ room → stepOn (rule h s) s place ≡ step.Chunk e to
-      → u ≡ noted t e → p ≡ passedFrom s (room - 1) to → Going h s f place₀ room₀ (p .place) (p .room) u × (p .room < room)
+      → u ≡ noted t e → p ≡ passedFrom s near (room - 1) to → Going h s near f place₀ room₀ (p .place) (p .room) u × (p .room < room)
   unfolding walkAfter
   going-next e to u p b k q v w =
-      subst (λ (x : Tally). Going h s f place₀ room₀ (p .place) (p .room) x × (p .room < room)) (sym v)
-      (subst (λ (x : Passed). Going h s f place₀ room₀ (x .place) (x .room) (noted t e) × (x .room < room)) (sym w) (
-      let z = skips h s b f (noted t e) (room - 1) to (omega (arith, g .few)) (turn-due (rule h s) s place e to (g .past .due .even) q) in
+      subst (λ (x : Tally). Going h s near f place₀ room₀ (p .place) (p .room) x × (p .room < room)) (sym v)
+      (subst (λ (x : Passed). Going h s near f place₀ room₀ (x .place) (x .room) (noted t e) × (x .room < room)) (sym w) (
+      let z = skips h s b near f (noted t e) (room - 1) to (omega (arith, g .few)) (going-nears e to q) in
       let n : LIMIT - room + 1 ≡ LIMIT - (room - 1) = omega (arith, g .few) in (
         record {
-          past = record { fit = g .past .fit; due = z .due; later = λ x. omega (arith, g .past .later x, z .on, turn-on (rule h s) s place e to q) };
+          past =
+              record {
+                fit = g .past .fit;
+                due = z .nears .due;
+                later = λ x. omega (arith, g .past .later x, z .on, turn-on (rule h s) s place e to q);
+              };
+          close = z .nears .end;
           few = omega (arith, g .few, z .few);
-          below = below-more _ _ _ (omega (arith, g .few, z .few)) (below-noted (2 * (LIMIT - room)) t e (g .below));
+          below = below-more _ _ _ (omega (arith, g .few, z .few)) (below-noted (LIMIT - room) t e (g .below));
           same =
               sym (z .same)
               ∙ sym (ap (λ (m : ℕ). tallyAs f m (noted t e) (walk (rule h s) s (room - 1) (to - 8))) n)
@@ -563,5 +549,6 @@ module _ (h : Head) (s : List ℕ) (f : Header) (place₀ room₀ place room : �
         omega (arith, z .few),
       )))
 
-pub going-small : {h : Head} {s : List ℕ} {f : Header} {place₀ room₀ place room : ℕ} {t : Tally} → Going h s f place₀ room₀ place room t → Small t
+pub going-small : {h : Head} {s : List ℕ} {near : ℕ} {f : Header} {place₀ room₀ place room : ℕ} {t : Tally}
+    → Going h s near f place₀ room₀ place room t → Small t
 going-small g = below-small _ _ (omega arith) (g .below)

@@ -1,5 +1,5 @@
 -- What the code alone needs: what the scan keeps of the chunks in place of their table, and the parts that it is made of.
-use Prim.Native.Nat.{ℕ, zero, suc, _+_, _-_, _*_, _%_, _^_, _≤_, _<_}
+use Prim.Native.Nat.{ℕ, zero, suc, _+_, _-_, _*_, _/_, _%_, _^_, _≤_, _<_}
 use mathlib.Core.Path.{_≡_}
 use mathlib.Core.Bool.{Bool, not, _&&_}
 use mathlib.Core.List.{List, [], _∷_}
@@ -19,7 +19,7 @@ use Rattle.chunk.specs.Names.{FMT, DATA, FACT, BEXT, CHNA}
 use Rattle.chunk.specs.Fields.{ONES}
 use Rattle.chunk.specs.Tables.{count, find, rowWords, tabled, LIMIT, WORDS}
 use Rattle.chunk.specs.Walks.{Rule, Walked, walk}
-use Rattle.chunk.specs.Contracts.{headerOf}
+use Rattle.chunk.specs.Contracts.{headerOf, Due}
 use Rattle.form.specs.declared.Head.{Head}
 use Rattle.form.specs.declared.Start.{Start}
 use Rattle.form.specs.Forms.{headOf}
@@ -49,24 +49,33 @@ use Rattle.wave.specs.Scans.{Listing, Scan, headers, judged, factCount}
 unfoldable pub payloadOf : Entry → Payload
 payloadOf e = record { place = e .place; size = e .size }
 
--- a fact counts once, and twice where it is below 4 bytes
-unfoldable pub weight : Entry → ℕ
-unfolding pick
-weight e = pick (ltb (e .size) 4) 2 1
-
 -- what is kept of a name after one chunk more: it changes where the chunk has the name
 unfoldable pub changes {ℓ} : {X : Type ℓ} → ℕ → Entry → X → X → X
 unfolding pick
 changes name e new old = pick (eqb (e .name) name) new old
 
+-- one chunk of a name counts so much, and others nothing
+unfoldable pub counts : ℕ → ℕ → Entry → ℕ
+counts name n e = changes name e n 0
+
+-- a fact counts once, and twice where it is below 4 bytes
+unfoldable pub heavy : Entry → ℕ
+unfolding pick
+heavy e = pick (ltb (e .size) 4) 2 1
+
+-- the five counts in one number, eight bits each: what a chunk adds to it
+unfoldable pub weight : Entry → ℕ
+weight e =
+    counts FMT 1 e
+    + 2 ^ 8 * counts DATA 1 e
+    + 2 ^ 16 * counts FACT (heavy e) e
+    + 2 ^ 24 * counts BEXT 1 e
+    + 2 ^ 32 * counts CHNA 1 e
+
 unfoldable pub noted : Tally → Entry → Tally
 noted t e =
     record {
-      fmts = changes FMT e (t .fmts + 1) (t .fmts);
-      datas = changes DATA e (t .datas + 1) (t .datas);
-      facts = changes FACT e (t .facts + weight e) (t .facts);
-      bexts = changes BEXT e (t .bexts + 1) (t .bexts);
-      chnas = changes CHNA e (t .chnas + 1) (t .chnas);
+      met = t .met + weight e;
       fmt = changes FMT e (payloadOf e) (t .fmt);
       audio = changes DATA e (payloadOf e) (t .audio);
       fact = changes FACT e (e .place) (t .fact);
@@ -77,63 +86,58 @@ allNoted t [] = t
 allNoted t (e ∷ es) = allNoted (noted t e) es
 
 unfoldable pub noTally : Tally
-noTally =
-    record {
-      fmts = 0;
-      datas = 0;
-      facts = 0;
-      bexts = 0;
-      chnas = 0;
-      fmt = record { place = 0; size = 0 };
-      audio = record { place = 0; size = 0 };
-      fact = 0;
-    }
+noTally = record { met = 0; fmt = record { place = 0; size = 0 }; audio = record { place = 0; size = 0 }; fact = 0 }
 
--- no count of a tally is near 2 ^ 64
+-- the counts of a tally are not near 2 ^ 64
 pub record Small (t : Tally) : Type 0 where
-  pub fmts : t .fmts < 2 ^ 32
-  pub datas : t .datas < 2 ^ 32
-  pub facts : t .facts < 2 ^ 32
-  pub bexts : t .bexts < 2 ^ 32
-  pub chnas : t .chnas < 2 ^ 32
+  pub met : t .met < 2 ^ 48
 
--- check 10 of a tally
+abbrev pub factsOf : Tally → ℕ
+factsOf t = t .met / 2 ^ 16 % 2 ^ 8
+
+-- check 10 of a tally: one fmt and one data, fmt first, and at most one of each other
 unfoldable pub tallyGood : Tally → Bool
 unfolding every
 tallyGood t =
     every
-    (eqb (t .fmts) 1
-    ∷ eqb (t .datas) 1
+    (eqb (t .met % 2 ^ 16) (1 + 2 ^ 8)
     ∷ ltb (t .fmt .place) (t .audio .place)
-    ∷ leb (t .bexts) 1
-    ∷ leb (t .chnas) 1
-    ∷ leb (t .facts) 1
+    ∷ leb (t .met / 2 ^ 24 % 2 ^ 8) 1
+    ∷ leb (t .met / 2 ^ 32) 1
+    ∷ leb (factsOf t) 1
     ∷ [])
 
 unfoldable pub factOf : Tally → Fact
 unfolding pick
-factOf t = pick (eqb (t .facts) 0) fact.None (fact.At (t .fact))
+factOf t = pick (eqb (factsOf t) 0) fact.None (fact.At (t .fact))
 
 -- ---- the walk
 
--- a chunk that no rule asks for, with a whole header after it: its field is its size, its name starts with none of b to f
+-- The end of the file, or nearer: no chunk past a place whose field is all ones ends by there, were that its size.
+pub record Near (len place near : ℕ) : Type 0 where
+  pub inside : near ≤ len
+  pub close : near ≤ place + ONES
+
+-- where the next chunk's payload starts, if a chunk's field is its size
 unfoldable pub nextOf : ℕ → List ℕ → ℕ
 nextOf place s = place + number 4 (place - 4) s + number 4 (place - 4) s % 2 + 8
 
-unfoldable pub passes : ℕ → List ℕ → Bool
+-- a chunk that no rule asks for, with a whole header after it: its name starts with none of b to f
+unfoldable pub passes : ℕ → ℕ → List ℕ → Bool
 unfolding every
-passes place s =
-    every
-    (not (eqb (number 4 (place - 4) s) ONES)
-    ∷ not (leb 98 (getD s (place - 8) 0) && leb (getD s (place - 8) 0) 102)
-    ∷ leb (nextOf place s) (length s)
-    ∷ [])
+passes near place s =
+    every (not (leb 98 (getD s (place - 8) 0) && leb (getD s (place - 8) 0) 102) ∷ leb (nextOf place s) near ∷ [])
 
-unfoldable pub passedFrom : List ℕ → ℕ → ℕ → Passed
+unfoldable pub passedFrom : List ℕ → ℕ → ℕ → ℕ → Passed
 unfolding pick
-passedFrom s zero place = record { place = place; room = 0 }
-passedFrom s (suc room) place =
-    pick (passes place s) (passedFrom s room (nextOf place s)) (record { place = place; room = suc room })
+passedFrom s near zero place = record { place = place; room = 0 }
+passedFrom s near (suc room) place =
+    pick (passes near place s) (passedFrom s near room (nextOf place s)) (record { place = place; room = suc room })
+
+-- a whole header ahead of a place, and what is near there
+pub record Nears (s : List ℕ) (near place : ℕ) : Type 0 where
+  pub due : Due s place
+  pub end : Near (length s) place near
 
 abbrev pub rule : Head → List ℕ → Rule
 rule h s = trueSize h (entriesOf h s)

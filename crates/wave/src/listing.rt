@@ -11,11 +11,11 @@ use form::Head;
 use form::Opened;
 use form::Start;
 ghost use mathlib.Core.Path.{_≡_};
-ghost use Prim.Native.Nat.{_+_, _-_, _^_, _<_};
+ghost use Prim.Native.Nat.{_+_, _-_, _^_, _≤_, _<_};
 ghost use Rattle.chunk.specs.Tables.{LIMIT};
-ghost use Rattle.chunk.specs.Contracts.{Due, headerOf, walkAfter, full};
+ghost use Rattle.chunk.specs.Contracts.{headerOf, walkAfter, full};
 ghost use Rattle.wave.specs.Scans.{listing, scan};
-ghost use Rattle.wave.specs.Contracts.{Small, noTally, factOf, passedFrom, restOf, Begins, tallyAs, chunksAs, bareAs, listedAs, FmtFits, judgeOf, examinedAs};
+ghost use Rattle.wave.specs.Contracts.{Small, noTally, factOf, Near, Nears, passedFrom, restOf, Begins, tallyAs, chunksAs, bareAs, listedAs, FmtFits, judgeOf, examinedAs};
 
 // fact's payload starts at a place, or there is no fact.
 pub enum Fact {
@@ -73,33 +73,39 @@ pub enum Tallied {
     Refused(Refusal),
 }
 
-// Passes the chunks that no rule asks for: the field is the size, the name starts with none of b to f, and a whole header
-// follows. One test of the end tells all of that chunk and of the next header.
-fn pass(file: &[u8], from: u64, rooms: u64) -> Passed
-    requires { ⌜ Due (now file) from ⌝ }
-    ensures { λ r. ⌜ r ≡ passedFrom (now (file .entry)) rooms from ⌝ }
+// Passes the chunks that no rule asks for: the name starts with none of b to f, and the next header is whole and no
+// farther than near, so that the field is the size. One test of the end tells all of that chunk and of the next header.
+fn pass(file: &[u8], near: u64, from: u64, rooms: u64) -> Passed
+    requires { ⌜ Nears (now file) near from ⌝ }
+    ensures { λ r. ⌜ r ≡ passedFrom (now (file .entry)) near rooms from ⌝ }
 {
-    let len = file.len() as u64;
     let mut place = from;
     let mut room = rooms;
     while 0 < room {
         let i = place as usize;
-        let field = le::read4(file, i - 4);
-        if field == chunk::ONES {
-            return Passed { place, room };
-        }
         let letter = file[i - 8];
         if b'b' <= letter && letter <= b'f' {
             return Passed { place, room };
         }
-        let next = chunk::steps::past(place, field);
-        if len < next {
+        let next = chunk::steps::past(place, le::read4(file, i - 4));
+        if near < next {
             return Passed { place, room };
         }
         place = next;
         room -= 1;
     }
     Passed { place, room }
+}
+
+// The end of the file, or nearer: as far as no all-ones field past a place can reach.
+fn near_end(len: u64, place: u64) -> u64
+    requires { ⌜ place ≤ len ⌝ }
+    ensures { λ r. ⌜ Near len place r ⌝ }
+{
+    if chunk::ONES < len - place {
+        return place + chunk::ONES;
+    }
+    len
 }
 
 // How the walk ends at a step after which no header may come.
@@ -134,8 +140,9 @@ fn walk(file: &[u8], o: Start) -> Tallied
     let mut room = o.room;
     let mut tally = super::tally::none();
     let first = chunk::steps::header(file, place);
-    let mut h = first;
+    let near = near_end(file.len() as u64, place);
     loop {
+        let h = chunk::steps::header(file, place);
         let found = form::truesize::step(file, head, place, h);
         let Step::Chunk(entry, next) = found else {
             let count = Table::LIMIT as u64 - room;
@@ -149,13 +156,12 @@ fn walk(file: &[u8], o: Start) -> Tallied
             );
         };
         tally = super::tally::note(tally, entry);
-        let p = pass(file, next, room - 1);
+        let p = pass(file, near, next, room - 1);
         place = p.place;
         room = p.room;
         if room == 0 {
             return Tallied::Refused(Refusal::TooMany);
         }
-        h = chunk::steps::header(file, place);
     }
 }
 
@@ -163,7 +169,7 @@ fn walk(file: &[u8], o: Start) -> Tallied
 fn fact_of(t: Tally) -> Fact
     ensures { λ r. ⌜ r ≡ factOf t ⌝ }
 {
-    if t.facts == 0 {
+    if super::tally::facts(t) == 0 {
         return Fact::None;
     }
     Fact::At(t.fact)

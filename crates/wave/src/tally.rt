@@ -2,7 +2,7 @@
 use chunk::Entry;
 use chunk::Name;
 ghost use mathlib.Core.Path.{_≡_};
-ghost use Rattle.wave.specs.Contracts.{noted, noTally, tallyGood, Small};
+ghost use Rattle.wave.specs.Contracts.{noted, noTally, factsOf, tallyGood, Small};
 
 // A chunk's payload: where it starts, and its true size.
 pub struct Payload {
@@ -10,17 +10,27 @@ pub struct Payload {
     pub size: u64,
 }
 
-// How many chunks of each name were met, and where the last was; zeros before the first. A fact below 4 bytes counts
-// twice, since two are refused as one such is.
+// How many chunks of each name were met, and where the last was; zeros before the first.
 pub struct Tally {
-    pub fmts: u64,
-    pub datas: u64,
-    pub facts: u64,
-    pub bexts: u64,
-    pub chnas: u64,
+    // The five counts in one number, eight bits each: a file has at most 64 chunks. A fact below 4 bytes counts twice,
+    // since two are refused as one such is.
+    pub met: u64,
     pub fmt: Payload,
     pub audio: Payload,
     pub fact: u64,
+}
+
+impl Tally {
+    // What one chunk of a name adds.
+    pub const FMT: u64 = 1;
+
+    pub const DATA: u64 = 0x100;
+
+    pub const FACT: u64 = 0x1_0000;
+
+    pub const BEXT: u64 = 0x100_0000;
+
+    pub const CHNA: u64 = 0x1_0000_0000;
 }
 
 // Nothing met yet.
@@ -29,11 +39,7 @@ pub fn none() -> Tally
 {
     let nothing = Payload { place: 0, size: 0 };
     Tally {
-        fmts: 0,
-        datas: 0,
-        facts: 0,
-        bexts: 0,
-        chnas: 0,
+        met: 0,
         fmt: nothing,
         audio: nothing,
         fact: 0,
@@ -52,7 +58,7 @@ pub fn note(t: Tally, e: Entry) -> Tally
             place: e.place,
             size: e.size,
         };
-        t.fmts += 1;
+        t.met += Tally::FMT;
         t.fmt = payload;
         return t;
     }
@@ -61,46 +67,50 @@ pub fn note(t: Tally, e: Entry) -> Tally
             place: e.place,
             size: e.size,
         };
-        t.datas += 1;
+        t.met += Tally::DATA;
         t.audio = payload;
         return t;
     }
     if name == Name::FACT {
-        t.facts += 1;
+        t.met += Tally::FACT;
         if e.size < 4 {
-            t.facts += 1;
+            t.met += Tally::FACT;
         }
         t.fact = e.place;
         return t;
     }
     if name == Name::BEXT {
-        t.bexts += 1;
+        t.met += Tally::BEXT;
         return t;
     }
     if name == Name::CHNA {
-        t.chnas += 1;
+        t.met += Tally::CHNA;
     }
     t
+}
+
+// How many facts were met.
+pub fn facts(t: Tally) -> u64
+    ensures { λ r. ⌜ r ≡ factsOf t ⌝ }
+{
+    t.met / Tally::FACT % 0x100
 }
 
 // Check 10.
 pub fn good(t: Tally) -> bool
     ensures { λ r. ⌜ r ≡ tallyGood t ⌝ }
 {
-    if t.fmts != 1 {
-        return false;
-    }
-    if t.datas != 1 {
+    if t.met % Tally::FACT != Tally::FMT + Tally::DATA {
         return false;
     }
     if t.audio.place <= t.fmt.place {
         return false;
     }
-    if 1 < t.bexts {
+    if 1 < t.met / Tally::BEXT % 0x100 {
         return false;
     }
-    if 1 < t.chnas {
+    if 1 < t.met / Tally::CHNA {
         return false;
     }
-    t.facts <= 1
+    facts(t) <= 1
 }

@@ -15,20 +15,19 @@ use Rattle.chunk.specs.declared.Header.{Header}
 use Rattle.chunk.specs.declared.Step.{Step}
 use Rattle.chunk.specs.declared.Step.the-variants.{Chunk}
 use Rattle.chunk.specs.Tables.{LIMIT}
-use Rattle.chunk.specs.Contracts.{HeaderAt}
 use Rattle.chunk.proofs.Step.{the-type}
-use Rattle.chunk.proofs.Turns.{header-is, turn-due}
+use Rattle.chunk.proofs.Turns.{header-is}
 use Rattle.wave.specs.Contracts.{noTally, restOf, tallyAs}
-use Rattle.wave.proofs.Passing.{begins, Going, going-start, going-last, going-full, going-next, going-small}
+use Rattle.wave.proofs.Passing.{begins, Going, going-start, going-last, going-full, going-nears, going-next, going-small}
 use Rattle.wave.proofs.listing.walk.Statement.{statement}
 use Rattle.wave.proofs.listing.walk.Tie as tie
 
 abbrev Inv-loop : tie.InvT-loop
-Inv-loop file head place₀ room₀ tally₀ first h₀ place room tally h =
-    Going head file first place₀ room₀ place room tally × (1 ≤ room) × HeaderAt place file h
+Inv-loop file head place₀ room₀ tally₀ first near place room tally =
+    Going head file near first place₀ room₀ place room tally × (1 ≤ room)
 
 abbrev μ-loop : tie.MeasureT-loop
-μ-loop file head place₀ room₀ tally₀ first h₀ place room tally h = room
+μ-loop file head place₀ room₀ tally₀ first near place room tally = room
 
 -- a step of another variant is no chunk
 no-chunk : (x : Step) → OneOf (1 ∷ 2 ∷ 3 ∷ []) (tagOf the-type x) → (e : Entry) (to : ℕ) → x ≡ Chunk e to → ⊥
@@ -45,79 +44,84 @@ none-requires c κs = tt
 header-requires : tie.Need-header-requires Inv-loop μ-loop
 header-requires c κs = let d = begins _ _ (c .before .before .before .pre) .past .due in (d .start, d .whole)
 
+near-end-requires : tie.Need-near-end-requires Inv-loop μ-loop
+near-end-requires c κs = begins _ _ (c .before .before .before .before .pre) .past .due .whole
+
 loop-holds : tie.Need-loop-holds Inv-loop μ-loop
 loop-holds c =
-    let b = c .before .before .before .before .pre in
-    (going-start _ _ _ _ b (c .before .none .ensures), begins _ _ b .some, c .header .ensures)
+    let b = c .before .before .before .before .before .pre in
+    (going-start _ _ _ _ _ b (c .near-end .ensures) (c .before .before .none .ensures), begins _ _ b .some)
+
+header-requires-2 : tie.Need-header-requires-2 Inv-loop μ-loop
+header-requires-2 c κs = let d = c .loop .inv .0 .past .due in (d .start, d .whole)
 
 step-requires : tie.Need-step-requires Inv-loop μ-loop
-step-requires c κs = (c .loop .inv .0 .past, c .loop .inv .2)
+step-requires c κs = (c .before .loop .inv .0 .past, c .header2 .ensures)
 
 enum-known-found : tie.Need-enum-known-found Inv-loop μ-loop
 enum-known-found c = search needs
 
 sub-count : tie.Need-sub-count Inv-loop μ-loop
-sub-count c = c .before .before .loop .inv .0 .few
+sub-count c = c .before .before .before .loop .inv .0 .few
 
 last-requires : tie.Need-last-requires Inv-loop μ-loop
-last-requires c κs = (going-small (c .before .before .loop .inv .0), omega arith)
+last-requires c κs = (going-small (c .before .before .before .loop .inv .0), omega arith)
 
 returns : tie.Need-returns Inv-loop μ-loop
 returns c =
-    let b = c .before .before .before in
+    let b = c .before .before .before .before in
     let i = b .loop .inv in
-    let o = b .before .before .before .before .before .args .o in
-    let s = b .before .before .before .before .before .args .file .now in
+    let o = b .before .before .before .before .before .before .args .o in
+    let s = b .before .before .before .before .before .before .args .file .now in
     c .last .ensures
-    ∙ going-last _ _ _ _ _ _ _ _ (i .0) _ (i .1) (c .before .before .step .ensures) (no-chunk _ (c .before .match .keys2))
-    ∙ ap (λ (f : Header). tallyAs f (LIMIT - o .room) noTally (restOf o s)) (header-is _ _ _ (b .before .header .ensures))
+    ∙ going-last _ _ _ _ _ _ _ _ _ (i .0) _ (i .1) (c .before .before .step .ensures) (no-chunk _ (c .before .match .keys2))
+    ∙ ap (λ (f : Header). tallyAs f (LIMIT - o .room) noTally (restOf o s)) (header-is _ _ _ (b .before .before .header .ensures))
 
 note-requires : tie.Need-note-requires Inv-loop μ-loop
-note-requires c κs = going-small (c .before .before .before .before .loop .inv .0)
+note-requires c κs = going-small (c .before .before .before .before .before .loop .inv .0)
 
 sub-pass : tie.Need-sub-pass Inv-loop μ-loop
-sub-pass c = c .before .before .before .before .before .loop .inv .1
+sub-pass c = c .before .before .before .before .before .before .loop .inv .1
 
 pass-requires : tie.Need-pass-requires Inv-loop μ-loop
 pass-requires c κs =
     let b = c .before .before .before .before in
-    turn-due _ _ _ _ _ (b .before .loop .inv .0 .past .due .even) (sym (b .step .ensures) ∙ c .before .before .found .given .1)
+    going-nears _ _ _ _ _ _ _ _ _ (b .before .before .loop .inv .0) _ _ (sym (b .step .ensures) ∙ c .before .before .found .given .1)
 
 -- after a chunk and the chunks that are passed
 next : (c : tie.After-pass Inv-loop μ-loop)
     → Going
-    (c .before .before .before .before .before .before .before .before .before .before .before .args .o .head)
-    (c .before .before .before .before .before .before .before .before .before .before .before .args .file .now)
-    (c .before .before .before .before .before .before .before .header .result)
-    (c .before .before .before .before .before .before .before .before .before .before .before .args .o .place)
-    (c .before .before .before .before .before .before .before .before .before .before .before .args .o .room)
+    (c .before .before .before .before .before .before .before .before .before .before .before .before .before .args .o .head)
+    (c .before .before .before .before .before .before .before .before .before .before .before .before .before .args .file .now)
+    (c .before .before .before .before .before .before .before .before .near-end .result)
+    (c .before .before .before .before .before .before .before .before .before .header .result)
+    (c .before .before .before .before .before .before .before .before .before .before .before .before .before .args .o .place)
+    (c .before .before .before .before .before .before .before .before .before .before .before .before .before .args .o .room)
     (c .pass .result .place)
     (c .pass .result .room)
     (c .before .note .result)
-    × (c .pass .result .room < c .before .before .before .before .before .before .loop .room)
+    × (c .pass .result .room < c .before .before .before .before .before .before .before .loop .room)
 unfolding Bytes
 next c =
     let b = c .before .before .before .before .before in
-    let i = b .before .loop .inv in
-    going-next _ _ _ _ _ _ _ _ (i .0) _ _ _ _ (λ n. omega (arith, b .before .before .before .before .before .shared-slice-known .given n)) (i .1)
+    let i = b .before .before .loop .inv in
+    going-next _ _ _ _ _ _ _ _ _ (i .0) _ _ _ _
+    (λ n. omega (arith, b .before .before .before .before .before .before .before .shared-slice-known .given n)) (i .1)
     (sym (b .step .ensures) ∙ c .before .before .before .found .given .1) (c .before .note .ensures) (c .pass .ensures)
 
 returns-2 : tie.Need-returns-2 Inv-loop μ-loop
 returns-2 c =
-    let b = c .before .before .before .before .before .before .before .before in
+    let b = c .before .before .before .before .before .before .before .before .before .before in
     let o = b .before .before .before .before .args .o in
     let s = b .before .before .before .before .args .file .now in
-    going-full _ _ _ _ _ _ _ _ (next (c .before) .0) (c .if1 .taken)
+    going-full _ _ _ _ _ _ _ _ _ (next (c .before) .0) (c .if1 .taken)
     ∙ ap (λ (f : Header). tallyAs f (LIMIT - o .room) noTally (restOf o s)) (header-is _ _ _ (b .header .ensures))
 
-header-requires-2 : tie.Need-header-requires-2 Inv-loop μ-loop
-header-requires-2 c κs = let d = next (c .before) .0 .past .due in (d .start, d .whole)
-
 loop-less : tie.Need-loop-less Inv-loop μ-loop
-loop-less c = next (c .before .before) .1
+loop-less c = next (c .before) .1
 
 loop-again : tie.Need-loop-again Inv-loop μ-loop
-loop-again c = (next (c .before .before) .0, omega (arith, c .before .if1 .left), c .header2 .ensures)
+loop-again c = (next (c .before) .0, omega (arith, c .if1 .left))
 
 pub walk-spec : {M : Type 1} → statement M
 walk-spec =
@@ -127,7 +131,9 @@ walk-spec =
     μ-loop
     none-requires
     header-requires
+    near-end-requires
     loop-holds
+    header-requires-2
     step-requires
     enum-known-found
     sub-count
@@ -137,6 +143,5 @@ walk-spec =
     sub-pass
     pass-requires
     returns-2
-    header-requires-2
     loop-less
     loop-again)
