@@ -405,6 +405,32 @@ fn sparse_data_of_5_gib() {
     long_data(b"BW64", 5 * GIB);
 }
 
+/// The file has room for 4,294,967,295 bytes there, and chunks on both sides of 4 GiB.
+#[test]
+fn sparse_all_ones_field_is_no_size() {
+    for known in [false, true] {
+        let folder = Folder::new();
+        let mut sparse = Sparse::create(&folder.path("take.wav"), b"RF64");
+        let long = u64::from(u32::MAX);
+        let head = ds64(0, 0, 0, &[(if known { b"LIST" } else { b"list" }, long)]);
+        sparse.chunk(b"ds64", head.len() as u32, head.len() as u64, &head);
+        sparse.chunk(b"fmt ", 16, 16, &FMT);
+        sparse.chunk(b"JUNK", 2, 2, b"in");
+        sparse.chunk(b"LIST", u32::MAX, long, b"");
+        sparse.chunk(b"JUNK", 3, 3, b"out");
+        sparse.chunk(b"JUNK", 0, 0, b"");
+        sparse.chunk(b"data", 8, 8, &[0; 8]);
+        sparse.finish(u32::MAX);
+        let (status, lines) = folder.json(&["scan", "--json", "take.wav"]);
+        if known {
+            assert_eq!(status, 0);
+            assert_eq!(chunks_of(&lines[0]), sparse.wanted);
+        } else {
+            assert_eq!((status, lines[0]["refusal"].as_u64()), (1, Some(7)));
+        }
+    }
+}
+
 #[test]
 fn sparse_entry_for_another_chunk_above_4_gib() {
     let folder = Folder::new();

@@ -229,6 +229,39 @@ fn the_data_size_of_ds64_only_counts_for_all_ones() {
     assert_eq!(scanned(&file).unwrap()[2], (*b"data", 80, 4));
 }
 
+/// An RF64 file whose ds64 has places for some entries and counts some of them; axml's size, 6, stands in one.
+fn with_entries(places: u32, count: u32, at: u32) -> Vec<u8> {
+    let mut ds64 = vec![0; 24];
+    ds64.extend(count.to_le_bytes());
+    for i in 0..places {
+        ds64.extend(if i == at { b"axml" } else { b"none" });
+        ds64.extend(if i == at { 6u64 } else { 1 }.to_le_bytes());
+    }
+    let mut file =
+        riff(&[(b"ds64", &ds64), (b"fmt ", &FMT), (b"axml", b"<a></>"), (b"data", b"\0\0\0\0")]);
+    file[..4].copy_from_slice(b"RF64");
+    let field = 12 + 8 + ds64.len() + 24 + 4;
+    file[field..field + 4].fill(0xFF);
+    file
+}
+
+#[test]
+fn an_entry_behind_the_count_is_none() {
+    for places in 1..=17 {
+        for count in 0..=places.min(16) {
+            for at in 0..places {
+                let scanned = scanned(&with_entries(places, count, at));
+                if at < count {
+                    let place = u64::from(12 + 8 + 28 + 12 * places + 24 + 8);
+                    assert_eq!(scanned.unwrap()[2], (*b"axml", place, 6), "{places} {count} {at}");
+                } else {
+                    assert_eq!(scanned, Err(Refusal::UnknownSize), "{places} {count} {at}");
+                }
+            }
+        }
+    }
+}
+
 #[test]
 fn fmt_edges() {
     assert!(read_fmt(&FMT).is_ok());
