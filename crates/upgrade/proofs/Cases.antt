@@ -9,7 +9,8 @@ use Rattle.chunk.specs.Walks.{past, placed, sized, step, stepAt, follow, walk, 
 use Rattle.form.specs.Forms.{isWide, formOf, ds64Good, ds64At, noDs64, wideAs, headAs, formSize, wholeForm, wholeAs, headOf, openFor32}
 use Rattle.form.specs.Sizes.{entriesIn, entriesOf, entrySize, onesSize, trueSize}
 use Rattle.fmt.specs.Formats.{sizeGood, bitsGood, samplesGood, validGood, recordGood, extraGood, recordIn, formatIn}
-use Rattle.wave.specs.Scans.{endedAs, chunksGood, headers, listing, payload, wholeBlocks, judged, scan, walkFrom, walk32}
+use Rattle.listing.specs.Listings.{endedAs, chunksGood, headers, listing}
+use Rattle.wave.specs.Scans.{payload, wholeBlocks, judged, scan, walkFrom, walk32}
 use Rattle.upgrade.specs.Upgrades.{patch, halves, hasFact, frames, thirdFor, factPatch, targetName, patches, patched, reserved, upgraded}
 use Rattle.upgrade.specs.Cases.{file, cells, scanned, walked, onto, fine, case, ones, cases, agree}
 

@@ -33,10 +33,11 @@ use Rattle.form.proofs.Sizes.{own-true, riff-own}
 use Rattle.fmt.specs.declared.Format.{Format}
 use Rattle.fmt.specs.Formats.{formatIn}
 use Rattle.fmt.proofs.Laws.{block-least}
-use Rattle.wave.specs.declared.listing.Accepted.{Accepted}
-use Rattle.wave.specs.declared.listing.Fact.the-variants as fact
+use Rattle.wave.specs.declared.judgement.Accepted.{Accepted}
+use Rattle.listing.specs.declared.Fact.the-variants as fact
 use Rattle.wave.specs.Scans.{Scan, scan, payload, judged, wholeBlocks}
-use Rattle.wave.specs.Contracts.{payloadOf, factIn, acceptedOf}
+use Rattle.listing.specs.Contracts.{payloadOf, factIn}
+use Rattle.wave.specs.Contracts.{acceptedOf}
 use Rattle.wave.proofs.Scanned.{scan-scanned}
 use Rattle.upgrade.specs.declared.Reserve.{Reserve}
 use Rattle.upgrade.specs.declared.Reserved.{Reserved}

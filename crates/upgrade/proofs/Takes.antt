@@ -31,7 +31,7 @@ use Rattle.form.proofs.Heads.{riff-head, form-own}
 use Rattle.form.proofs.Sizes.{own-true, ds64-first, riff-own}
 use Rattle.fmt.specs.declared.Format.{Format}
 use Rattle.wave.specs.Scans.{Scan}
-use Rattle.wave.proofs.Scanned.{Listed}
+use Rattle.listing.proofs.Checked.{Listed}
 use Rattle.upgrade.specs.declared.Target.{Target}
 use Rattle.upgrade.specs.declared.Target.the-variants as target
 use Rattle.upgrade.specs.Upgrades.{hasFact, frames, thirdFor}

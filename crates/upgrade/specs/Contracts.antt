@@ -13,9 +13,9 @@ use Rattle.chunk.specs.Names.{DS64, JUNK}
 use Rattle.chunk.specs.Fields.{ONES}
 use Rattle.form.specs.declared.Form.the-variants.{Riff}
 use Rattle.form.specs.Forms.{LEAST}
-use Rattle.wave.specs.declared.listing.Accepted.{Accepted}
-use Rattle.wave.specs.declared.listing.Fact.{Fact}
-use Rattle.wave.specs.declared.listing.Fact.the-variants as fact
+use Rattle.wave.specs.declared.judgement.Accepted.{Accepted}
+use Rattle.listing.specs.declared.Fact.{Fact}
+use Rattle.listing.specs.declared.Fact.the-variants as fact
 use Rattle.wave.specs.Scans.{Scan, scan}
 use Rattle.wave.specs.Contracts.{acceptedOf}
 use Rattle.upgrade.specs.declared.Reserved.{Reserved}

@@ -8,9 +8,9 @@ use chunk::Refusal;
 use chunk::Verdict;
 use form::Ds64;
 use form::Form;
-use wave::listing::Accepted;
-use wave::listing::Examined;
-use wave::listing::Fact;
+use listing::Fact;
+use wave::judgement::Accepted;
+use wave::judgement::Examined;
 ghost use mathlib.Core.Path.{_≡_};
 ghost use Prim.Native.Nat.{_+_, _≤_};
 ghost use lib.ListN.{length};
@@ -159,7 +159,7 @@ pub fn upgrade(file: &mut [u8], target: Target) -> Verdict
     ensures { λ r. ⌜ UpgradeDone target (now (file .entry)) r (now (file .exit)) ⌝ }
     ensures demand3 { λ r. ⌜ KeepsDemand3 target (now (file .entry)) r (now (file .exit)) ⌝ }
 {
-    match wave::listing::examine(file) {
+    match wave::judgement::examine(file) {
         Examined::Refused(r) => Verdict::Refused(r),
         Examined::Accepted(a) => convert(file, target, a),
     }

@@ -26,7 +26,8 @@ use Rattle.form.specs.declared.Head.{Head}
 use Rattle.form.specs.Forms.{ds64At, wholeForm, openFor32, LEAST, ENTRY}
 use Rattle.form.specs.Contracts.{EntriesFit}
 use Rattle.form.proofs.Heads.{Opened, wide-head, ds64-rules}
-use Rattle.wave.specs.Scans.{Scan, scan, headers, rowsOf, walkFrom, walk32}
+use Rattle.listing.specs.Listings.{headers}
+use Rattle.wave.specs.Scans.{Scan, scan, rowsOf, walkFrom, walk32}
 use Rattle.wave.specs.Words.{scanTable, ScanDone, walkTable, WalkDone}
 use Rattle.wave.specs.Contracts.{Lists, Fills}
 use Rattle.wave.proofs.Scanned.{scan-scanned}

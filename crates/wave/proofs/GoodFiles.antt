@@ -33,7 +33,8 @@ use Rattle.fmt.specs.declared.Format.{Format}
 use Rattle.fmt.specs.Formats.{formatIn}
 use Rattle.wave.specs.Scans.{payload, wholeBlocks, judged, Scan, scan}
 use Rattle.wave.specs.Grammar.{Chunk, chunkBytes, allBytes, fileBytes, ds64Bytes, rowAt, rowsAt, Without, Ds64First, GoodFile}
-use Rattle.wave.proofs.Scanned.{Chunked, scanned-scan}
+use Rattle.listing.proofs.Checked.{Chunked}
+use Rattle.wave.proofs.Scanned.{scanned-scan}
 use Rattle.wave.proofs.Ds64Sizes.{known, good-size, ds64-length, ds64-read}
 
 -- ---- a chunk

@@ -4,9 +4,7 @@ pub mod Ds64Sizes
 pub mod Ends
 pub mod FirstHalf
 pub mod GoodFiles
-pub mod Listings
-pub mod Passing
+pub mod Judgements
 pub mod Scanned
 pub mod Stored
 pub mod Tables
-pub mod Tallied

@@ -37,8 +37,9 @@ use Rattle.form.specs.declared.Head.{Head}
 use Rattle.form.specs.Forms.{isWide}
 use Rattle.form.specs.Sizes.{trueSize, onesSize, strayDs64, entriesOf}
 use Rattle.form.proofs.Sizes.{own-true, riff-own}
-use Rattle.wave.specs.Scans.{headers}
-use Rattle.wave.specs.Contracts.{rule, rowsFrom, Lists, Finishes, Rowed, WideRows, Fills}
+use Rattle.listing.specs.Listings.{headers}
+use Rattle.listing.specs.Contracts.{rule}
+use Rattle.wave.specs.Contracts.{rowsFrom, Lists, Finishes, Rowed, WideRows, Fills}
 
 -- ---- rows stored from a word on
 

@@ -1,68 +1,27 @@
 -- Document 01, "Refusal numbers" and "The 32-bit walk": the scan as a listing (checks 1 to 10) and a judgement (11 and
 -- 12), the sample count, and the 32-bit walk.
 use Prim.Native.Nat.{ℕ, _%_}
-use mathlib.Core.Bool.{Bool, _||_}
 use mathlib.Core.List.{List, [], _∷_}
-use lib.Dec.{eqb, leb, ltb}
+use lib.Dec.{eqb}
 use Rattle.le.specs.Number.{number, field}
-use Rattle.le.specs.Choice.{pick, every}
+use Rattle.le.specs.Choice.{pick}
 use Rattle.chunk.specs.declared.Entry.{Entry}
-use Rattle.chunk.specs.declared.Refusal.the-variants.{BadChunkSet, RaggedAudio}
-use Rattle.chunk.specs.declared.Verdict.{Verdict}
-use Rattle.chunk.specs.declared.Verdict.the-variants.{Accepted, Refused}
+use Rattle.chunk.specs.declared.Refusal.the-variants.{RaggedAudio}
+use Rattle.chunk.specs.declared.Verdict.the-variants.{Refused}
 use Rattle.chunk.specs.Refusals.{refusalNumber, Answer, refused, given, check, andThen}
-use Rattle.chunk.specs.Names.{FMT, DATA, FACT, BEXT, CHNA}
+use Rattle.chunk.specs.Names.{FMT, DATA, FACT}
 use Rattle.chunk.specs.Fields.{ONES}
 use Rattle.chunk.specs.Tables.{count, find, LIMIT}
 use Rattle.chunk.specs.Walks.{Walked, walk, ownSize}
 use Rattle.form.specs.declared.Form.{Form}
 use Rattle.form.specs.declared.Form.the-variants.{Riff, Rf64, Bw64}
 use Rattle.form.specs.declared.Head.{Head}
-use Rattle.form.specs.Forms.{headOf, openFor32}
-use Rattle.form.specs.Sizes.{trueSize, entriesOf}
+use Rattle.form.specs.Forms.{openFor32}
+use Rattle.listing.specs.Listings.{listing}
 use Rattle.fmt.specs.declared.Format.{Format}
 use Rattle.fmt.specs.Formats.{formatIn}
 use Rattle.wave.specs.declared.Samples.{Samples}
 use Rattle.wave.specs.declared.Samples.the-variants as samples
-
--- ---- the listing: checks 1 to 10
-
--- the rows of a walk that came to the end, or the refusal it stopped with
-unfoldable pub endedAs : Verdict → List Entry → Answer (List Entry)
-endedAs Accepted rows = given rows
-endedAs (Refused r) rows = refused r
-
--- check 10: "exactly one fmt and one data, fmt first, and at most one each of bext, chna and fact; fact holds at least 4
--- bytes"
-unfoldable pub chunksGood : List Entry → Bool
-unfolding every
-chunksGood rows =
-    every
-    (eqb (count FMT rows) 1
-    ∷ eqb (count DATA rows) 1
-    ∷ ltb (find FMT rows .place) (find DATA rows .place)
-    ∷ leb (count BEXT rows) 1
-    ∷ leb (count CHNA rows) 1
-    ∷ leb (count FACT rows) 1
-    ∷ (eqb (count FACT rows) 0 || leb 4 (find FACT rows .size))
-    ∷ [])
-
--- a file's form and its table
-pub record Listing : Type 0 where
-  pub head : Head
-  pub rows : List Entry
-
--- the walk of the headers by the true sizes
-unfoldable pub headers : Head → List ℕ → Walked
-headers h s = walk (trueSize h (entriesOf h s)) s LIMIT 12
-
-unfoldable pub listing : List ℕ → Answer Listing
-unfolding andThen check
-listing s =
-    andThen (headOf s) λ h.
-    andThen (endedAs (headers h s .end) (headers h s .rows)) λ rows.
-    check (chunksGood rows) BadChunkSet
-    (given (record { head = h; rows = rows }))
 
 -- ---- the judgement: checks 11 and 12
 

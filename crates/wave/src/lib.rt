@@ -2,16 +2,15 @@
 //
 // Each comes twice where it gives a table: once by value, and once into words that the caller lends, laid out as
 // chunk::Table has them. Nothing is asked of the bytes or of the words.
-pub mod listing;
+pub mod judgement;
 mod rows;
-mod tally;
 
 use chunk::Refusal;
 use chunk::Table;
 use chunk::Verdict;
 use form::Form;
 use form::Head;
-use listing::Examined;
+use judgement::Examined;
 use listing::Fact;
 ghost use mathlib.Core.Path.{_≡_};
 ghost use Prim.Native.Nat.{_+_, _≤_};
@@ -44,7 +43,7 @@ pub fn scan_into(file: &[u8], words: &mut [u64]) -> Verdict
     if words.len() < Table::WORDS {
         return Verdict::Refused(Refusal::ShortOutput);
     }
-    match listing::examine(file) {
+    match judgement::examine(file) {
         Examined::Refused(r) => {
             words[0] = 0;
             Verdict::Refused(r)
@@ -120,7 +119,7 @@ fn fact_count(file: &[u8], head: Head, place: u64) -> Samples
 pub fn sample_count(file: &[u8]) -> Samples
     ensures { λ r. ⌜ r ≡ samplesOf (now (file .entry)) ⌝ }
 {
-    match listing::examine(file) {
+    match judgement::examine(file) {
         Examined::Refused(r) => Samples::Refused(r),
         Examined::Accepted(a) => {
             let fact = a.fact;

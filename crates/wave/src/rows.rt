@@ -11,7 +11,7 @@ ghost use lib.ListN.{length};
 ghost use Rattle.chunk.specs.Tables.{tabled, LIMIT, WORDS};
 ghost use Rattle.chunk.specs.Walks.{ownSize, walk};
 ghost use Rattle.chunk.specs.Contracts.{walkAfter, full};
-ghost use Rattle.wave.specs.Scans.{headers};
+ghost use Rattle.listing.specs.Listings.{headers};
 ghost use Rattle.wave.specs.Contracts.{Lists, Finishes, Fills, Rowed, WideRows, rowsFrom};
 
 // How the 32-bit walk ends at a step after which no header may come: what it found is stored, and the number of rows.

@@ -16,7 +16,7 @@ use Rattle.chunk.specs.Tables.{count, find}
 use Rattle.form.specs.Forms.{LEAST}
 use Rattle.form.specs.declared.Form.{Form}
 use Rattle.form.specs.declared.Form.the-variants.{Riff, Rf64, Bw64}
-use Rattle.wave.proofs.Scanned.{Chunked}
+use Rattle.listing.proofs.Checked.{Chunked}
 use Rattle.writer.specs.Files.{optionalSize}
 use Rattle.writer.specs.WayBack.{entry, firstName, rowFor, tableFor}
 

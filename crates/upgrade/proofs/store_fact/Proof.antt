@@ -2,7 +2,7 @@
 -- Assumes nothing.
 use mathlib.Core.Path.{sym, _∙_, ap}
 use borrow.Author.Needs.{needs}
-use Rattle.wave.specs.declared.listing.Fact.{Fact}
+use Rattle.listing.specs.declared.Fact.{Fact}
 use Rattle.upgrade.specs.declared.Target.{Target}
 use Rattle.upgrade.specs.Upgrades.{patch, patched}
 use Rattle.upgrade.specs.Contracts.{factAs, factStore}

@@ -3,7 +3,7 @@
 use mathlib.Core.Path.{refl, sym, _∙_, ap}
 use native.Mathlib.Omega.{arith}
 use borrow.Author.Needs.{needs}
-use Rattle.wave.specs.declared.listing.Fact.{Fact}
+use Rattle.listing.specs.declared.Fact.{Fact}
 use Rattle.upgrade.specs.declared.Target.{Target}
 use Rattle.upgrade.specs.Contracts.{thirdAs, thirdOf}
 use Rattle.upgrade.proofs.Makes.{fact-within, known-block}

@@ -4,7 +4,7 @@ use mathlib.Core.Path.{sym, _∙_}
 use native.Mathlib.Omega.{arith}
 use borrow.Author.Needs.{needs}
 use Rattle.le.specs.Number.{Bytes}
-use Rattle.wave.proofs.Listings.{examined-refused, examined-accepted}
+use Rattle.wave.proofs.Judgements.{examined-refused, examined-accepted}
 use Rattle.upgrade.proofs.Makes.{done-refused}
 use Rattle.upgrade.proofs.ForTheCode.{keeps}
 use Rattle.upgrade.proofs.upgrade.Statement.{statement}

@@ -8,7 +8,7 @@ use Rattle.wave.specs.declared.Samples.the-variants as samples
 use Rattle.wave.specs.Scans.{factCount}
 use Rattle.wave.specs.Contracts.{countAt}
 use Rattle.wave.proofs.Counts.{fact-third}
-use Rattle.wave.proofs.Listings.{fact-own}
+use Rattle.wave.proofs.Judgements.{fact-own}
 use Rattle.wave.proofs.fact_count.Statement.{statement}
 use Rattle.wave.proofs.fact_count.Tie as tie
 

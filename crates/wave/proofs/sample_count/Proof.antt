@@ -6,7 +6,7 @@ use borrow.Author.Needs.{needs}
 use Rattle.form.specs.declared.Head.{Head}
 use Rattle.wave.specs.Contracts.{countAt}
 use Rattle.wave.proofs.Counts.{samples-none, samples-fact, samples-given, samples-refused}
-use Rattle.wave.proofs.Listings.{examined-refused, examined-accepted, fact-at, fact-none}
+use Rattle.wave.proofs.Judgements.{examined-refused, examined-accepted, fact-at, fact-none}
 use Rattle.wave.proofs.sample_count.Statement.{statement}
 use Rattle.wave.proofs.sample_count.Tie as tie
 

@@ -3,7 +3,7 @@
 use mathlib.Core.Path.{sym, _∙_}
 use borrow.Author.Needs.{needs}
 use Rattle.wave.proofs.Ends.{accepted-fills, scan-short, scan-refused, scan-accepted}
-use Rattle.wave.proofs.Listings.{examined-refused, examined-accepted}
+use Rattle.wave.proofs.Judgements.{examined-refused, examined-accepted}
 use Rattle.wave.proofs.scan_into.Statement.{statement}
 use Rattle.wave.proofs.scan_into.Tie as tie
 

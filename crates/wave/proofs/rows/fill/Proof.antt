@@ -5,7 +5,7 @@ use mathlib.Core.Logic.{⊎-elim}
 use native.Mathlib.Omega.{arith}
 use lib.ListN.{length, length-set}
 use borrow.Author.Needs.{needs}
-use Rattle.wave.specs.Scans.{headers}
+use Rattle.listing.specs.Listings.{headers}
 use Rattle.wave.specs.Contracts.{rowsFrom}
 use Rattle.wave.proofs.Stored.{rows-length, fills-few, fills-wide, fills-own, fills-rows, fills-tabled}
 use Rattle.wave.proofs.rows.fill.Statement.{statement}

@@ -8,8 +8,8 @@ use borrow.Author.Needs.{needs}
 use Rattle.chunk.specs.declared.TrueSize.{TrueSize}
 use Rattle.chunk.proofs.Checks.{given-inj}
 use Rattle.chunk.proofs.Laid.{row-size}
-use Rattle.wave.specs.Scans.{headers}
-use Rattle.wave.specs.Contracts.{rule}
+use Rattle.listing.specs.Listings.{headers}
+use Rattle.listing.specs.Contracts.{rule}
 use Rattle.wave.proofs.Stored.{Filling, Ahead, filling-start, filling-next, filling-end, true-size, ones-size}
 use Rattle.wave.proofs.rows.fill_wide.Statement.{statement}
 use Rattle.wave.proofs.rows.fill_wide.Tie as tie

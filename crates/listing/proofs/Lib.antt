@@ -1,0 +1,4 @@
+pub mod Checked
+pub mod Listings
+mod Passing
+mod Tallied
