@@ -12,7 +12,7 @@ use Rattle.le.specs.Number.{number}
 use Rattle.chunk.specs.declared.TrueSize.{TrueSize}
 use Rattle.chunk.specs.declared.Refusal.{Refusal}
 use Rattle.chunk.specs.declared.Refusal.the-variants.{TooShort, NotWave, Unfinished, BadDs64, BadFormSize}
-use Rattle.chunk.specs.Refusals.{Answer, refused, given}
+use Rattle.chunk.specs.Refusals.{Answer, refused, given, andThen}
 use Rattle.chunk.specs.Names.{RIFF, RF64, BW64, WAVE}
 use Rattle.chunk.specs.Fields.{ONES}
 use Rattle.chunk.specs.Tables.{LIMIT}
@@ -20,16 +20,15 @@ use Rattle.chunk.proofs.Checks.{picked, pick-true, pick-false, true-false, chec
 use Rattle.form.specs.declared.Form.{Form}
 use Rattle.form.specs.declared.Form.the-variants.{Riff, Rf64, Bw64}
 use Rattle.form.specs.declared.Head.{Head}
-use Rattle.form.specs.declared.Named.the-variants as named
 use Rattle.form.specs.declared.Opened.the-variants as opened
 use Rattle.form.specs.declared.Start.{Start}
 use Rattle.form.specs.declared.Size.the-variants as size
 use Rattle.form.specs.declared.opening.Parsed.{Parsed}
 use Rattle.form.specs.declared.opening.Parsing.{Parsing}
 use Rattle.form.specs.declared.opening.Parsing.the-variants as parsing
-use Rattle.form.specs.Forms.{isWide, formOf, ds64Good, ds64At, headAs, noDs64, formSize, wholeForm, headOf, openFor32, wholeAs, wideAs}
-use Rattle.form.specs.Contracts.{namedAs, openedAs, sizeAs, placeOf, roomOf, headThen, second, parsedAs}
-use Rattle.form.proofs.Heads.{Ds64Rules, rules-ds64, ds64-broken, true-whole, whole-true, form-ones}
+use Rattle.form.specs.Forms.{nameOf, isWide, formOf, ds64Good, ds64At, headAs, noDs64, formSize, wholeForm, headOf, openFor32, wholeAs, wideAs}
+use Rattle.form.specs.Contracts.{openedAs, sizeAs, placeOf, roomOf, headThen, second, parsedAs}
+use Rattle.form.proofs.Heads.{named-form, Ds64Rules, rules-ds64, ds64-broken, true-whole, whole-true, form-ones}
 
 -- ---- what an enum tells
 
@@ -60,24 +59,6 @@ pub size-refused : (x : Answer TrueSize) (r : Refusal) → sizeAs x ≡ size.Ref
 unfolding sizeAs
 size-refused (refused q) r e = cc
 size-refused (given g) r e = absurd (let z : _≡_ {A = ℕ} 0 1 = cc in omega arith)
-
-pub named-given : (x : Answer Form) (f : Form) → namedAs x ≡ named.Form f → x ≡ given f
-unfolding namedAs
-named-given (refused r) f e = absurd (let z : _≡_ {A = ℕ} 0 1 = cc in omega arith)
-named-given (given g) f e = cc
-
-pub unnamed : (n : ℕ) → namedAs (formOf n) ≡ named.Unknown → formOf n ≡ refused NotWave
-unfolding formOf namedAs
-unnamed n =
-    picked P (eqb n RIFF) _ _ (λ _. no Riff) λ _.
-    picked P (eqb n RF64) _ _ (λ _. no Rf64) λ _.
-    picked P (eqb n BW64) _ _ (λ _. no Bw64) λ _ e. refl
-  where
-    P : Answer Form → Type 0
-    P x = namedAs x ≡ named.Unknown → x ≡ refused NotWave
-
-    no : (f : Form) → named.Form f ≡ named.Unknown → given f ≡ refused NotWave
-    no f e = absurd (let z : _≡_ {A = ℕ} 0 1 = cc in omega arith)
 
 -- ---- check 4
 
@@ -175,21 +156,31 @@ pub open-short : (s : List ℕ) → length s < 12 → headOf s ≡ refused TooSh
 unfolding headOf
 open-short s h = check-false _ _ _ (lt-leb 12 (length s) h)
 
-pub open-unnamed : (s : List ℕ) → 12 ≤ length s → formOf (number 4 0 s) ≡ refused NotWave → headOf s ≡ refused NotWave
-unfolding headOf
-open-unnamed s l e = check-true _ _ _ (le-leb 12 (length s) l) ∙ rw e
+-- what answers 2 to every form answers 2 to a name
+formed-refused : (n : ℕ) (k : Form → Answer Head) → ((f : Form) → k f ≡ refused NotWave) → andThen (formOf n) k ≡ refused NotWave
+unfolding formOf andThen
+formed-refused n k e =
+    picked P (eqb n RIFF) _ _ (λ _. e Riff) λ _.
+    picked P (eqb n RF64) _ _ (λ _. e Rf64) λ _.
+    picked P (eqb n BW64) _ _ (λ _. e Bw64) λ _. refl
+  where
+    P : Answer Form → Type 0
+    P x = andThen x k ≡ refused NotWave
 
-pub open-no-wave : (s : List ℕ) (f : Form) → 12 ≤ length s → formOf (number 4 0 s) ≡ given f → (number 4 8 s ≡ WAVE → ⊥)
+pub open-no-wave : (s : List ℕ) → 12 ≤ length s → (number 4 8 s ≡ WAVE → ⊥) → headOf s ≡ refused NotWave
+unfolding headOf
+open-no-wave s l n = check-true _ _ _ (le-leb 12 (length s) l) ∙ formed-refused _ _ (λ f. check-false _ _ _ (ne-eqb _ _ n))
+
+pub open-unnamed : (s : List ℕ) → 12 ≤ length s → (number 4 0 s ≡ RIFF → ⊥) → (number 4 0 s ≡ RF64 → ⊥) → (number 4 0 s ≡ BW64 → ⊥)
     → headOf s ≡ refused NotWave
-unfolding headOf
-open-no-wave s f l e n =
-    check-true _ _ _ (le-leb 12 (length s) l) ∙ andThen-at _ _ f e ∙ check-false _ _ _ (ne-eqb _ _ n)
+unfolding headOf formOf
+open-unnamed s l k m n =
+    check-true _ _ _ (le-leb 12 (length s) l) ∙ rw (ne-eqb (number 4 0 s) RIFF k, ne-eqb (number 4 0 s) RF64 m, ne-eqb (number 4 0 s) BW64 n)
 
-pub open-wave : (s : List ℕ) (f : Form) → 12 ≤ length s → formOf (number 4 0 s) ≡ given f → number 4 8 s ≡ WAVE
-    → headOf s ≡ headThen f s
+pub open-wave : (s : List ℕ) (f : Form) → 12 ≤ length s → number 4 8 s ≡ WAVE → number 4 0 s ≡ nameOf f → headOf s ≡ headThen f s
 unfolding headOf headThen wholeAs
-open-wave s f l e w =
-    check-true _ _ _ (le-leb 12 (length s) l) ∙ andThen-at _ _ f e ∙ check-true _ _ _ (eq-eqb _ _ w)
+open-wave s f l w e =
+    check-true _ _ _ (le-leb 12 (length s) l) ∙ andThen-at _ _ f (named-form _ f e) ∙ check-true _ _ _ (eq-eqb _ _ w)
 
 -- ---- checks 1, 2 and 5 of the 32-bit walk
 

@@ -12,8 +12,6 @@ use Rattle.chunk.specs.Contracts.{Due}
 use Rattle.le.specs.Choice.{pick}
 use Rattle.form.specs.declared.Form.{Form}
 use Rattle.form.specs.declared.Head.{Head}
-use Rattle.form.specs.declared.Named.{Named}
-use Rattle.form.specs.declared.Named.the-variants as named
 use Rattle.form.specs.declared.Opened.{Opened}
 use Rattle.form.specs.declared.Opened.the-variants as opened
 use Rattle.form.specs.declared.Size.{Size}
@@ -23,10 +21,6 @@ use Rattle.form.specs.declared.opening.Parsing.{Parsing}
 use Rattle.form.specs.declared.opening.Parsing.the-variants as parsing
 use Rattle.form.specs.Forms.{isWide, ds64Good, ds64At, headAs, wholeAs, LEAST, ENTRY}
 use Rattle.form.specs.Sizes.{entriesOf, onesSize}
-
-unfoldable pub namedAs : Answer Form → Named
-namedAs (refused r) = named.Unknown
-namedAs (given f) = named.Form f
 
 unfoldable pub sizeAs : Answer TrueSize → Size
 sizeAs (refused r) = size.Refused r

@@ -39,12 +39,6 @@ pub struct Head {
     pub ds64: Ds64,
 }
 
-// The form that a name stands for.
-pub enum Named {
-    Form(Form),
-    Unknown,
-}
-
 // A file whose form is good, and where its other chunks start: in RIFF the first of all, in a 64-bit form past ds64.
 pub struct Start {
     pub head: Head,

@@ -2,7 +2,6 @@
 use super::Ds64;
 use super::Form;
 use super::Head;
-use super::Named;
 use super::Opened;
 use super::Start;
 use chunk::Name;
@@ -15,8 +14,8 @@ ghost use Prim.Native.Nat.{_≤_};
 ghost use lib.ListN.{length};
 ghost use Rattle.chunk.specs.Refusals.{verdictOf};
 ghost use Rattle.form.specs.declared.Form.the-variants.{Riff};
-ghost use Rattle.form.specs.Forms.{formOf, isWide, headOf, openFor32};
-ghost use Rattle.form.specs.Contracts.{namedAs, parsedAs, openedAs, headThen};
+ghost use Rattle.form.specs.Forms.{isWide, headOf, openFor32};
+ghost use Rattle.form.specs.Contracts.{parsedAs, openedAs, headThen};
 
 // A ds64 that keeps its rules, and the place of the chunk past it.
 pub struct Parsed {
@@ -27,22 +26,6 @@ pub struct Parsed {
 pub enum Parsing {
     Good(Parsed),
     Broken,
-}
-
-// The form that a name stands for.
-fn form_of(name: u64) -> Named
-    ensures { λ r. ⌜ r ≡ namedAs (formOf name) ⌝ }
-{
-    if name == Name::RIFF {
-        return Named::Form(Form::Riff);
-    }
-    if name == Name::RF64 {
-        return Named::Form(Form::Rf64);
-    }
-    if name == Name::BW64 {
-        return Named::Form(Form::Bw64);
-    }
-    Named::Unknown
 }
 
 // The ds64 of a 64-bit form: check 4.
@@ -133,25 +116,27 @@ fn riff(file: &[u8]) -> Opened
     })
 }
 
-// Checks 1 to 5 of the scan.
+// Checks 1 to 5 of the scan. No form and no WAVE are both 2.
 pub fn open(file: &[u8]) -> Opened
     ensures { λ r. ⌜ r ≡ openedAs (now (file .entry)) (headOf (now (file .entry))) ⌝ }
 {
     if file.len() < 12 {
         return Opened::Refused(Refusal::TooShort);
     }
-    let named = form_of(le::read4(file, 0));
-    let Named::Form(form) = named else {
-        return Opened::Refused(Refusal::NotWave);
-    };
     if le::read4(file, 8) != Name::WAVE {
         return Opened::Refused(Refusal::NotWave);
     }
-    match form {
-        Form::Riff => riff(file),
-        Form::Rf64 => wide(file, Form::Rf64),
-        Form::Bw64 => wide(file, Form::Bw64),
+    let name = le::read4(file, 0);
+    if name == Name::RIFF {
+        return riff(file);
     }
+    if name == Name::RF64 {
+        return wide(file, Form::Rf64);
+    }
+    if name == Name::BW64 {
+        return wide(file, Form::Bw64);
+    }
+    Opened::Refused(Refusal::NotWave)
 }
 
 // Checks 1, 2 and 5 of the 32-bit walk.

@@ -1,12 +1,12 @@
--- `form::opening::open` meets its contract: the law of each outcome, and in each arm the form is known.
+-- `form::opening::open` meets its contract: the law of each outcome, and past each test of the name the form is known.
 -- Assumes nothing.
-use mathlib.Core.Path.{refl, _∙_, ap, sym}
+use mathlib.Core.Path.{_≡_, refl, _∙_, ap, sym}
 use borrow.Author.Needs.{needs}
-use Rattle.chunk.specs.Refusals.{given}
+use Rattle.form.specs.declared.Form.{Form}
 use Rattle.form.specs.declared.Form.the-variants.{Riff, Rf64, Bw64}
-use Rattle.form.specs.Forms.{isWide, formOf}
-use Rattle.form.specs.Contracts.{openedAs}
-use Rattle.form.proofs.Opens.{open-short, open-unnamed, open-no-wave, open-wave, unnamed, named-given}
+use Rattle.form.specs.Forms.{nameOf, isWide, headOf}
+use Rattle.form.specs.Contracts.{openedAs, headThen}
+use Rattle.form.proofs.Opens.{open-short, open-unnamed, open-no-wave, open-wave}
 use Rattle.form.proofs.opening.open.Statement.{statement}
 use Rattle.form.proofs.opening.open.Tie as tie
 
@@ -17,77 +17,50 @@ returns c = sym (ap (openedAs _) (open-short _ (c .if1 .taken)))
 read4-requires : tie.Need-read4-requires
 read4-requires c κs = search needs
 
-form-of-requires : tie.Need-form-of-requires
-form-of-requires c κs = search needs
-
-enum-known-named : tie.Need-enum-known-named
-enum-known-named c = search needs
-
-enum-told : tie.Need-enum-told
-enum-told c = search needs
-
 returns-2 : tie.Need-returns-2
 unfolding openedAs
-returns-2 c =
-    sym (ap (openedAs _) (open-unnamed _ (c .before .before .before .before .if1 .left)
-    (ap formOf (sym (c .before .before .before .read4 .ensures .is)) ∙ unnamed _ (sym (c .before .before .form-of .ensures) ∙ c .enum-told .given .1))))
+returns-2 c = sym (ap (openedAs _) (open-no-wave _ (c .before .before .if1 .left) (λ e. c .if2 .taken (c .before .read4 .ensures .is ∙ e))))
 
 read4-requires-2 : tie.Need-read4-requires-2
 read4-requires-2 c κs = search needs
 
-returns-3 : tie.Need-returns-3
-unfolding openedAs
-returns-3 c =
-    sym (ap (openedAs _) (open-no-wave _ _ (c .before .before .before .before .before .before .before .if1 .left)
-    (ap formOf (sym (c .before .before .before .before .before .before .read4 .ensures .is)) ∙ named-given _ _ (sym (c .before .before .before .before .before .form-of .ensures) ∙ c .before .before .before .named .given .1))
-    (λ e. c .if2 .taken (c .before .read42 .ensures .is ∙ e))))
-
-enum-told-2 : tie.Need-enum-told-2
-enum-told-2 c = search needs
+-- past WAVE the name of a form leaves that form's own checks
+formed : (c : tie.After-read42) (f : Form) → c .read42 .result ≡ nameOf f
+    → openedAs (c .before .before .before .before .before .args .file .now) (headThen f (c .before .before .before .before .before .args .file .now))
+    ≡ openedAs (c .before .before .before .before .before .args .file .now) (headOf (c .before .before .before .before .before .args .file .now))
+formed c f e =
+    sym (ap (openedAs _) (open-wave _ f (c .before .before .before .if1 .left) (sym (c .before .before .read4 .ensures .is) ∙ c .before .if2 .left)
+    (sym (c .read42 .ensures .is) ∙ e)))
 
 riff-requires : tie.Need-riff-requires
 riff-requires c κs = search needs
 
-enum-told-3 : tie.Need-enum-told-3
-enum-told-3 c = search needs
+returns-3 : tie.Need-returns-3
+unfolding nameOf
+returns-3 c = c .riff .ensures ∙ formed (c .before .before) Riff (c .before .if3 .taken)
 
 wide-requires : tie.Need-wide-requires
 unfolding isWide
-wide-requires c κs = (c .before .before .before .before .before .before .before .before .before .if1 .left, refl)
+wide-requires c κs = (c .before .before .before .before .before .if1 .left, refl)
 
-enum-told-4 : tie.Need-enum-told-4
-enum-told-4 c = search needs
+returns-4 : tie.Need-returns-4
+unfolding nameOf
+returns-4 c = c .wide .ensures ∙ formed (c .before .before .before) Rf64 (c .before .if4 .taken)
 
 wide-requires-2 : tie.Need-wide-requires-2
 unfolding isWide
-wide-requires-2 c κs = (c .before .before .before .before .before .before .before .before .before .if1 .left, refl)
-
-returns-4 : tie.Need-returns-4
-returns-4 c =
-    c .riff .ensures
-    ∙ sym (ap (openedAs _) (open-wave _ Riff (c .before .before .before .before .before .before .before .before .before .before .if1 .left)
-    (ap formOf (sym (c .before .before .before .before .before .before .before .before .before .read4 .ensures .is))
-    ∙ named-given _ _ (sym (c .before .before .before .before .before .before .before .before .form-of .ensures) ∙ c .before .before .before .before .before .before .named .given .1)
-    ∙ ap given (c .before .enum-told2 .given .1))
-    (sym (c .before .before .before .before .read42 .ensures .is) ∙ c .before .before .before .if2 .left)))
+wide-requires-2 c κs = (c .before .before .before .before .before .before .if1 .left, refl)
 
 returns-5 : tie.Need-returns-5
-returns-5 c =
-    c .wide .ensures
-    ∙ sym (ap (openedAs _) (open-wave _ Rf64 (c .before .before .before .before .before .before .before .before .before .before .if1 .left)
-    (ap formOf (sym (c .before .before .before .before .before .before .before .before .before .read4 .ensures .is))
-    ∙ named-given _ _ (sym (c .before .before .before .before .before .before .before .before .form-of .ensures) ∙ c .before .before .before .before .before .before .named .given .1)
-    ∙ ap given (c .before .enum-told3 .given .1))
-    (sym (c .before .before .before .before .read42 .ensures .is) ∙ c .before .before .before .if2 .left)))
+unfolding nameOf
+returns-5 c = c .wide2 .ensures ∙ formed (c .before .before .before .before) Bw64 (c .before .if5 .taken)
 
 returns-6 : tie.Need-returns-6
+unfolding openedAs
 returns-6 c =
-    c .wide2 .ensures
-    ∙ sym (ap (openedAs _) (open-wave _ Bw64 (c .before .before .before .before .before .before .before .before .before .before .if1 .left)
-    (ap formOf (sym (c .before .before .before .before .before .before .before .before .before .read4 .ensures .is))
-    ∙ named-given _ _ (sym (c .before .before .before .before .before .before .before .before .form-of .ensures) ∙ c .before .before .before .before .before .before .named .given .1)
-    ∙ ap given (c .before .enum-told4 .given .1))
-    (sym (c .before .before .before .before .read42 .ensures .is) ∙ c .before .before .before .if2 .left)))
+    let q = c .before .before .before .read42 .ensures .is in
+    sym (ap (openedAs _) (open-unnamed _ (c .before .before .before .before .before .before .if1 .left)
+    (λ e. c .before .before .if3 .left (q ∙ e)) (λ e. c .before .if4 .left (q ∙ e)) (λ e. c .if5 .left (q ∙ e))))
 
 pub open-spec : {M : Type 1} → statement M
 open-spec =
@@ -95,18 +68,12 @@ open-spec =
     (tie.spec
     returns
     read4-requires
-    form-of-requires
-    enum-known-named
-    enum-told
     returns-2
     read4-requires-2
-    returns-3
-    enum-told-2
     riff-requires
-    enum-told-3
+    returns-3
     wide-requires
-    enum-told-4
-    wide-requires-2
     returns-4
+    wide-requires-2
     returns-5
     returns-6)
