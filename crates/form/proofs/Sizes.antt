@@ -3,18 +3,19 @@
 -- Assumes nothing.
 use mathlib.Core.Path.{_≡_, refl, sym, _∙_, ap}
 use mathlib.Core.Bool.{Bool, true, false, not, _&&_}
-use mathlib.Core.List.{List}
+use mathlib.Core.List.{List, [], _∷_}
 use Prim.Native.Nat.{ℕ}
 use native.Mathlib.Omega.{arith}
 use lib.Dec.{eqb}
 use borrow.Author.Tests.{eq-eqb, ne-eqb, eqb-true, not-true}
 use Rattle.le.specs.Choice.{pick}
 use Rattle.chunk.specs.declared.TrueSize.{TrueSize}
+use Rattle.chunk.specs.declared.Refusal.{Refusal}
 use Rattle.chunk.specs.declared.Refusal.the-variants.{BadDs64, UnknownSize}
-use Rattle.chunk.specs.Refusals.{refused, given}
+use Rattle.chunk.specs.Refusals.{Answer, refused, given}
 use Rattle.chunk.specs.Names.{DS64, DATA}
 use Rattle.chunk.specs.Fields.{ONES}
-use Rattle.chunk.proofs.Checks.{given-inj, refused-given, true-false, check-given, pick-true, pick-false}
+use Rattle.chunk.proofs.Checks.{picked, given-inj, refused-given, true-false, check-given, pick-true, pick-false}
 use Rattle.form.specs.declared.Form.{Form}
 use Rattle.form.specs.declared.Form.the-variants.{Riff, Rf64, Bw64}
 use Rattle.form.specs.declared.Ds64.{Ds64}
@@ -104,6 +105,29 @@ known-data d ks name e = pick-true _ _ _ (eq-eqb name DATA e)
 pub known-other : (d : Ds64) (ks : List Ds64Entry) (name : ℕ) → (name ≡ DATA → ⊥) → knownSize d ks name ≡ entrySize name ks
 unfolding knownSize
 known-other d ks name n = pick-false _ _ _ (ne-eqb name DATA n)
+
+-- what is refused is refused with 7
+module _ (r : Refusal) where
+  abbrev Only7 : Answer TrueSize → Type 0
+  Only7 x = x ≡ refused r → x ≡ refused UnknownSize
+
+  given-only : (t : TrueSize) → Only7 (given t)
+  given-only t e = absurd (refused-given r t (sym e))
+
+  entry-only : (name : ℕ) (ks : List Ds64Entry) → Only7 (entrySize name ks)
+  unfolding entrySize
+  entry-only name [] = λ _. refl
+  entry-only name (k ∷ ks) = picked Only7 (eqb (k .name) name) _ _ (λ _. given-only _) λ _. entry-only name ks
+
+  known-only : (d : Ds64) (ks : List Ds64Entry) (name : ℕ) → Only7 (knownSize d ks name)
+  unfolding knownSize
+  known-only d ks name = picked Only7 (eqb name DATA) _ _ (λ _. given-only _) λ _. entry-only name ks
+
+  pub ones-only : (f : Form) (d : Ds64) (ks : List Ds64Entry) (name : ℕ) → Only7 (onesSize f d ks name)
+  unfolding onesSize
+  ones-only Riff d ks name = λ _. refl
+  ones-only Rf64 d ks name = known-only d ks name
+  ones-only Bw64 d ks name = known-only d ks name
 
 -- ---- which sizes are known
 

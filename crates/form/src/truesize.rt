@@ -11,7 +11,7 @@ use chunk::TrueSize;
 ghost use mathlib.Core.Path.{_≡_};
 ghost use Prim.Native.Nat.{_+_, _*_, _≤_};
 ghost use lib.ListN.{length, drop};
-ghost use Rattle.chunk.specs.Contracts.{HeaderAt, foundAs, stepOn};
+ghost use Rattle.chunk.specs.Contracts.{HeaderAt, stepOn};
 ghost use Rattle.form.specs.Forms.{isWide, LEAST, ENTRY};
 ghost use Rattle.form.specs.Sizes.{entriesIn, entriesOf, entrySize, knownSize, onesSize, trueSize};
 ghost use Rattle.form.specs.Contracts.{sizeAs, EntriesFit, Knows, IsKnown, Past};
@@ -91,23 +91,6 @@ pub fn known(file: &[u8], head: Head, name: u64) -> TrueSize
     }
 }
 
-// The step over a header whose field is all ones.
-fn step_ones(file: &[u8], head: Head, place: u64, name: u64) -> Step
-    requires { ⌜ Past head (now file) place ⌝ }
-    ensures { λ r. ⌜ r ≡ foundAs (length (now (file .entry))) place name (onesSize (head .form) (head .ds64) (entriesOf head (now (file .entry))) name) ⌝ }
-{
-    let len = file.len() as u64;
-    match ones_size(file, head, name) {
-        Size::Refused(r) => Step::Stop(r),
-        Size::Known(size) => {
-            if len - place < size.bytes {
-                return Step::Stop(Refusal::PastEnd);
-            }
-            chunk::steps::found(len, place, name, size)
-        }
-    }
-}
-
 // A step of the scan past ds64: a ds64 is out of place (4), a field that isn't all ones is the size, and ds64 knows the
 // others (7).
 pub fn step(file: &[u8], head: Head, place: u64, h: Header) -> Step
@@ -117,9 +100,17 @@ pub fn step(file: &[u8], head: Head, place: u64, h: Header) -> Step
     if h.name == Name::DS64 {
         return Step::Stop(Refusal::BadDs64);
     }
+    let len = file.len() as u64;
+    let mut size = TrueSize { bytes: h.field };
     if h.field == chunk::ONES {
-        return step_ones(file, head, place, h.name);
+        let given = ones_size(file, head, h.name);
+        let Size::Known(known) = given else {
+            return Step::Stop(Refusal::UnknownSize);
+        };
+        if len - place < known.bytes {
+            return Step::Stop(Refusal::PastEnd);
+        }
+        size = known;
     }
-    let size = TrueSize { bytes: h.field };
-    chunk::steps::found(file.len() as u64, place, h.name, size)
+    chunk::steps::found(len, place, h.name, size)
 }

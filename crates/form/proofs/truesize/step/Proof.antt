@@ -1,59 +1,112 @@
--- `form::truesize::step` meets its contract: a law for each outcome of the size rule.
+-- `form::truesize::step` meets its contract: a law for each outcome of the size rule, and one size where the two ways meet.
 -- Assumes nothing.
 use mathlib.Core.Path.{_≡_, _∙_, ap, ap₂, sym}
+use mathlib.Core.Logic.{⊎-elim}
 use mathlib.Core.List.{List}
 use Prim.Native.Nat.{ℕ, _-_}
 use native.Mathlib.Omega.{arith}
 use lib.ListN.{length}
 use borrow.Author.Needs.{needs}
-use Rattle.le.specs.Number.{number}
-use Rattle.chunk.specs.declared.Step.{Step}
-use Rattle.chunk.specs.Names.{DS64}
-use Rattle.chunk.specs.Fields.{ONES}
-use Rattle.chunk.specs.Walks.{entryOf}
-use Rattle.chunk.specs.Contracts.{placedIn, foundAs, stepOn}
-use Rattle.form.specs.declared.Head.{Head}
-use Rattle.form.specs.Sizes.{onesSize, entriesOf, trueSize}
+use Rattle.chunk.specs.declared.Header.{Header}
+use Rattle.chunk.specs.declared.TrueSize.{TrueSize}
+use Rattle.chunk.specs.Refusals.{Answer, given}
+use Rattle.chunk.specs.Walks.{Rule, past}
+use Rattle.chunk.specs.Contracts.{HeaderAt, foundAs, stepOn}
+use Rattle.chunk.proofs.Turns.{placed-ends, ends-past}
+use Rattle.form.specs.Sizes.{entriesOf, onesSize, trueSize}
 use Rattle.form.proofs.Ds64Entries.{true-stray, true-field, true-ones}
-use Rattle.form.proofs.Sizes.{other-placed, stray-placed}
+use Rattle.form.proofs.Opens.{size-given, size-refused}
+use Rattle.form.proofs.Sizes.{other-placed, stray-placed, ones-only}
 use Rattle.form.proofs.truesize.step.Statement.{statement}
 use Rattle.form.proofs.truesize.step.Tie as tie
 
+-- the rule's answer at a header that was read
+at-header : (rule : Rule) {s : List ℕ} {place : ℕ} {h : Header} {x : Answer TrueSize} → HeaderAt place s h → rule (place - 8) (h .name) (h .field) ≡ x
+    → foundAs (length s) place (h .name) x ≡ stepOn rule s place
+unfolding stepOn
+at-header rule {s} {place} p e =
+    ap (foundAs _ _ _) (sym e) ∙ ap₂ (λ (n f : ℕ). foundAs (length s) place n (rule (place - 8) n f)) (p .name) (p .field)
+
+-- what the rule says of this one, and that ds64 says it if the field is all ones
+abbrev said : tie.Start → Answer TrueSize
+said a = trueSize (a .args .head) (entriesOf (a .args .head) (a .args .file .now)) (a .args .place - 8) (a .args .h .name) (a .args .h .field)
+
+abbrev ds64-says : tie.Start → Answer TrueSize
+ds64-says a = onesSize (a .args .head .form) (a .args .head .ds64) (entriesOf (a .args .head) (a .args .file .now)) (a .args .h .name)
+
+by-ds64 : (c : tie.Then2) → said (c .before .before .before .before .before) ≡ ds64-says (c .before .before .before .before .before)
+by-ds64 c = true-ones _ _ _ _ _ (other-placed _ _ _ (c .before .before .if1 .left)) (c .if2 .taken)
+
 returns : tie.Need-returns
-unfolding stepOn foundAs
+unfolding foundAs
 returns c =
     let p = c .before .before .before .pre in
-    sym (ap (foundAs _ _ _) (true-stray _ _ _ _ _ (stray-placed _ _ _ (sym (p .1 .name) ∙ c .if1 .taken) λ w e. omega (arith, p .0 .later w, e))))
+    at-header _ (p .1) (true-stray _ _ _ _ _ (stray-placed _ _ _ (c .if1 .taken) λ w e. omega (arith, p .0 .later w, e)))
 
--- the step by the name in the file
-named : (h : Head) (s : List ℕ) (place : ℕ) {n : ℕ} {x : Step}
-    → x ≡ foundAs (length s) place n (onesSize (h .form) (h .ds64) (entriesOf h s) n) → n ≡ number 4 (place - 8) s
-    → (number 4 (place - 8) s ≡ DS64 → ⊥) → number 4 (place - 4) s ≡ ONES → x ≡ stepOn (trueSize h (entriesOf h s)) s place
-unfolding stepOn
-named h s place e n k o =
-    e
-    ∙ ap (λ (m : ℕ). foundAs (length s) place m (onesSize (h .form) (h .ds64) (entriesOf h s) m)) n
-    ∙ sym (ap (foundAs _ _ _) (true-ones _ _ _ _ _ (other-placed _ _ _ k) o))
+ones-size-requires : tie.Need-ones-size-requires
+ones-size-requires c κs = search needs
 
-step-ones-requires : tie.Need-step-ones-requires
-step-ones-requires c κs = search needs
+enum-known-given : tie.Need-enum-known-given
+enum-known-given c = search needs
+
+enum-told : tie.Need-enum-told
+enum-told c = search needs
 
 returns-2 : tie.Need-returns-2
+unfolding foundAs
 returns-2 c =
-    let h = c .before .before .before .before .before .before .pre .1 in
-    named _ _ _ (c .step-ones .ensures) (h .name) (λ e. c .before .before .before .if1 .left (h .name ∙ e)) (sym (h .field) ∙ c .before .if2 .taken)
+    at-header _ (c .before .before .before .before .before .before .before .before .pre .1)
+    (by-ds64 (c .before .before .before)
+    ∙ ones-only _ _ _ _ _ (size-refused _ _ (sym (c .before .before .ones-size .ensures) ∙ c .enum-told .given .1)))
 
-found-requires : tie.Need-found-requires
-found-requires c κs = search needs
+sub-if3 : tie.Need-sub-if3
+sub-if3 c = search needs
 
 returns-3 : tie.Need-returns-3
-unfolding stepOn foundAs
+unfolding foundAs past
 returns-3 c =
-    let a = c .before .before .before .before .before .before .args in
-    let h = c .before .before .before .before .before .before .pre .1 in
-    c .found .ensures
-    ∙ ap₂ (λ (n f : ℕ). placedIn (length (a .file .now)) (entryOf (a .place) n (record { bytes = f }))) (h .name) (h .field)
-    ∙ sym (ap (foundAs _ _ _) (true-field _ _ _ _ _ (other-placed _ _ _ λ e. c .before .before .before .if1 .left (h .name ∙ e)) (λ e. c .before .if2 .left (h .field ∙ e))))
+    sym (placed-ends _ _ (omega arith) ∙ ends-past _ _ _ (omega arith))
+    ∙ at-header _ (c .before .before .before .before .before .before .before .before .before .before .before .pre .1)
+    (by-ds64 (c .before .before .before .before .before .before)
+    ∙ size-given _ _ (sym (c .before .before .before .before .before .ones-size .ensures) ∙ c .before .before .before .given .given .1))
+
+found-requires : tie.Need-found-requires
+found-requires c κs =
+    let p = c .before .before .before .before .before .pre in
+    record {
+      start = p .0 .due .start;
+      whole = p .0 .due .whole;
+      even = p .0 .due .even;
+      small =
+          ⊎-elim
+          (λ w. let b = ap (λ (t : TrueSize). t .bytes) (w .7) in omega (arith, b, w .6 .left))
+          (λ w. let b = ap (λ (t : TrueSize). t .bytes) (w .1) in omega (arith, b, p .1 .field-fits))
+          (c .if2 .came);
+    }
+
+-- the size where the two ways meet
+size : (c : tie.Joined2) → said (c .before .before .before .before .before) ≡ given (c .if2 .size)
+size c =
+    ⊎-elim
+    (λ w. by-ds64 (record { before = c .before; if2 = w .0 }) ∙ size-given _ _ (sym (w .1 .ensures) ∙ w .3 .given .1) ∙ ap given (sym (w .7)))
+    (λ w. true-field _ _ _ _ _ (other-placed _ _ _ (c .before .before .if1 .left)) (w .0 .left) ∙ ap given (sym (w .1)))
+    (c .if2 .came)
+
+returns-4 : tie.Need-returns-4
+unfolding foundAs
+returns-4 c =
+    c .found .ensures ∙ at-header _ (c .before .before .before .before .before .before .pre .1) (size (c .before))
 
 pub step-spec : {M : Type 1} → statement M
-step-spec = tie.close (tie.spec returns step-ones-requires returns-2 found-requires returns-3)
+step-spec =
+    tie.close
+    (tie.spec
+    returns
+    ones-size-requires
+    enum-known-given
+    enum-told
+    returns-2
+    sub-if3
+    returns-3
+    found-requires
+    returns-4)
