@@ -24,19 +24,19 @@ unfolding entriesIn entrySize number field
 entry-here name zero at s h e = absurd (omega arith)
 entry-here name (suc left) at s h e = rw (eq-eqb (number 4 at s) name e, drop-drop 4 at s)
 
--- it has another name
-pub entry-later : (name left at : ℕ) (s : List ℕ) → 0 < left → (number 4 at s ≡ name → ⊥)
-    → entrySize name (entriesIn left (drop at s)) ≡ entrySize name (entriesIn (left - 1) (drop (at + ENTRY) s))
+-- it has another name, or is no entry
+pub entry-later : (name left next at : ℕ) (s : List ℕ) → next ≡ left - 1 → (number 4 at s ≡ name → ⊥)
+    → entrySize name (entriesIn left (drop at s)) ≡ entrySize name (entriesIn next (drop (at + ENTRY) s))
 unfolding entriesIn entrySize number field
-entry-later name zero at s h n = absurd (omega arith)
-entry-later name (suc left) at s h n =
+entry-later name zero next at s e n = rw e
+entry-later name (suc left) next at s e n =
     rw (ne-eqb (number 4 at s) name n, drop-drop ENTRY at s)
-    (ap (λ (k : ℕ). entrySize name (entriesIn k (drop (at + ENTRY) s))) (let e : left ≡ suc left - 1 = omega arith in e))
+    (ap (λ (k : ℕ). entrySize name (entriesIn k (drop (at + ENTRY) s))) (let p : left ≡ next = omega (arith, e) in p))
 
 -- no entry is left
-pub entry-none : (name left at : ℕ) (s : List ℕ) → left ≡ 0 → entrySize name (entriesIn left (drop at s)) ≡ refused UnknownSize
+pub entry-none : (name left : ℕ) (s : List ℕ) → left ≡ 0 → entrySize name (entriesIn left s) ≡ refused UnknownSize
 unfolding entriesIn entrySize
-entry-none name left at s e = rw e
+entry-none name left s e = rw e
 
 -- ---- the scan's size rule, one law for each outcome
 

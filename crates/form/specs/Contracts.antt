@@ -19,7 +19,7 @@ use Rattle.form.specs.declared.Size.the-variants as size
 use Rattle.form.specs.declared.Start.{Start}
 use Rattle.form.specs.declared.opening.Parsing.{Parsing}
 use Rattle.form.specs.declared.opening.Parsing.the-variants as parsing
-use Rattle.form.specs.Forms.{isWide, ds64Good, ds64At, headAs, wholeAs, LEAST, ENTRY}
+use Rattle.form.specs.Forms.{isWide, ds64Good, ds64At, headAs, wholeAs, ENTRIES, LEAST, ENTRY}
 use Rattle.form.specs.Sizes.{entriesOf, onesSize}
 
 unfoldable pub sizeAs : Answer TrueSize → Size
@@ -55,9 +55,10 @@ unfoldable pub headThen : Form → List ℕ → Answer Head
 unfolding andThen
 headThen f s = andThen (headAs f s) λ h. wholeAs h s
 
--- a 64-bit form's entries lie in the file
+-- a 64-bit form's entries lie in the file, and are no more than a ds64 may have
 pub record EntriesFit (h : Head) (s : List ℕ) : Type 0 where
   pub inside : isWide (h .form) ≡ true → 20 + LEAST + ENTRY * h .ds64 .count ≤ length s
+  pub few : isWide (h .form) ≡ true → h .ds64 .count ≤ ENTRIES
 
 -- a header past ds64 stands ahead of a place
 pub record Past (h : Head) (s : List ℕ) (place : ℕ) : Type 0 where

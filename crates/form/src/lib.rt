@@ -31,6 +31,8 @@ impl Ds64 {
     pub const ENTRY: u64 = 12;
     // Where the least payload ends in a file, past the form's 12 bytes and a header: the entries start there.
     pub const END: u64 = 20 + Ds64::LEAST;
+    // Where the most entries end.
+    pub const FULL: u64 = Ds64::END + Ds64::ENTRY * Ds64::LIMIT;
 }
 
 // A form, with the ds64 of a 64-bit one; RIFF has one of zeros.

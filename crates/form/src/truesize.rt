@@ -12,7 +12,7 @@ ghost use mathlib.Core.Path.{_≡_};
 ghost use Prim.Native.Nat.{_+_, _*_, _≤_};
 ghost use lib.ListN.{length, drop};
 ghost use Rattle.chunk.specs.Contracts.{HeaderAt, stepOn};
-ghost use Rattle.form.specs.Forms.{isWide, LEAST, ENTRY};
+ghost use Rattle.form.specs.Forms.{isWide, ENTRIES, LEAST, ENTRY};
 ghost use Rattle.form.specs.Sizes.{entriesIn, entriesOf, entrySize, knownSize, onesSize, trueSize};
 ghost use Rattle.form.specs.Contracts.{sizeAs, EntriesFit, Knows, IsKnown, Past};
 
@@ -27,8 +27,8 @@ pub fn is_wide(form: Form) -> bool
     }
 }
 
-// The size that the first entry of a name gives, or 7.
-fn entry_size(file: &[u8], count: u64, name: u64) -> Size
+// The size that the first entry of a name gives, or 7, entry by entry.
+fn few_entries(file: &[u8], count: u64, name: u64) -> Size
     requires { ⌜ 20 + LEAST + ENTRY * count ≤ length (now file) ⌝ }
     ensures { λ r. ⌜ r ≡ sizeAs (entrySize name (entriesIn count (drop (20 + LEAST) (now (file .entry))))) ⌝ }
 {
@@ -46,9 +46,35 @@ fn entry_size(file: &[u8], count: u64, name: u64) -> Size
     Size::Refused(Refusal::UnknownSize)
 }
 
+// The same. A file that a full ds64 would fit in is searched at all the places where an entry may stand: the first of the
+// name is an entry if its position is below the count. The bound is a constant, so the loop is unrolled.
+fn entry_size(file: &[u8], count: u64, name: u64) -> Size
+    requires { ⌜ (20 + LEAST + ENTRY * count ≤ length (now file)) × (count ≤ ENTRIES) ⌝ }
+    ensures { λ r. ⌜ r ≡ sizeAs (entrySize name (entriesIn count (drop (20 + LEAST) (now (file .entry))))) ⌝ }
+{
+    if (file.len() as u64) < Ds64::FULL {
+        return few_entries(file, count, name);
+    }
+    let mut i: u64 = 0;
+    let mut at = Ds64::END as usize;
+    while i < Ds64::LIMIT {
+        if le::read4(file, at) == name {
+            if count <= i {
+                return Size::Refused(Refusal::UnknownSize);
+            }
+            return Size::Known(TrueSize {
+                bytes: le::read8(file, at + 4),
+            });
+        }
+        at += Ds64::ENTRY as usize;
+        i += 1;
+    }
+    Size::Refused(Refusal::UnknownSize)
+}
+
 // What ds64 says of a chunk whose own field is all ones.
 fn known_size(file: &[u8], ds64: Ds64, name: u64) -> Size
-    requires { ⌜ 20 + LEAST + ENTRY * ds64 .count ≤ length (now file) ⌝ }
+    requires { ⌜ (20 + LEAST + ENTRY * ds64 .count ≤ length (now file)) × (ds64 .count ≤ ENTRIES) ⌝ }
     ensures { λ r. ⌜ r ≡ sizeAs (knownSize ds64 (entriesIn (ds64 .count) (drop (20 + LEAST) (now (file .entry)))) name) ⌝ }
 {
     if name == Name::DATA {

@@ -428,7 +428,7 @@ begins s o b = go (isWide (o .head .form)) refl
         record {
           past =
               record {
-                fit = record { inside = λ v. absurd (true-false _ v w) };
+                fit = record { inside = λ v. absurd (true-false _ v w); few = λ v. absurd (true-false _ v w) };
                 due = record { start = omega arith; whole = b .whole; even = omega (arith, p) };
                 later = λ v. absurd (true-false _ v w);
               };
@@ -444,7 +444,7 @@ begins s o b = go (isWide (o .head .form)) refl
         record {
           past =
               record {
-                fit = record { inside = λ _. omega (arith, n, d .holds, d .ends) };
+                fit = record { inside = λ _. omega (arith, n, d .holds, d .ends); few = λ _. omega (arith, n, d .few) };
                 due = record { start = omega arith; whole = b .whole; even = omega (arith, p) };
                 later = λ _. omega arith;
               };

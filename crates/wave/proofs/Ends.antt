@@ -23,7 +23,7 @@ use Rattle.chunk.specs.Walks.{Walked, ownSize}
 use Rattle.chunk.proofs.Checks.{pick-true, pick-false, check-given}
 use Rattle.chunk.proofs.Laid.{laid-walk}
 use Rattle.form.specs.declared.Head.{Head}
-use Rattle.form.specs.Forms.{ds64At, wholeForm, openFor32, LEAST, ENTRY}
+use Rattle.form.specs.Forms.{ds64At, wholeForm, openFor32, ENTRIES, LEAST, ENTRY}
 use Rattle.form.specs.Contracts.{EntriesFit}
 use Rattle.form.proofs.Heads.{Opened, wide-head, ds64-rules}
 use Rattle.listing.specs.Listings.{headers}
@@ -35,7 +35,7 @@ use Rattle.wave.proofs.Stored.{none-tabled}
 
 -- ---- an accepted file can be filled in
 
--- a 64-bit form's entries lie in the file
+-- a 64-bit form's entries lie in the file, and are few
 pub entries-fit : (s : List ℕ) (h : Head) → Opened s h → EntriesFit h s
 unfolding ds64At
 entries-fit s h o =
@@ -44,6 +44,9 @@ entries-fit s h o =
           let g = wide-head (h .form) s h w (o .head) in
           let r = ds64-rules _ _ _ _ (g .0) in
           subst (λ (x : Head). 20 + LEAST + ENTRY * x .ds64 .count ≤ length s) (sym (g .1)) (omega (arith, r .holds, r .ends));
+      few = λ w.
+          let g = wide-head (h .form) s h w (o .head) in
+          subst (λ (x : Head). x .ds64 .count ≤ ENTRIES) (sym (g .1)) (ds64-rules _ _ _ _ (g .0) .few);
     }
 
 -- its rows are those of its walk

@@ -31,7 +31,7 @@ some : {s : List ℕ} {name at : ℕ} {t : TrueSize} (a : Ahead s name at t) →
 some {s} {name} {at} {t} a = go (a .left) (a .is)
   where
     go : (n : ℕ) → entrySize name (entriesIn n (drop at s)) ≡ given t → 0 < n
-    go zero e = absurd (refused-given UnknownSize t (sym (entry-none name zero at s refl) ∙ e))
+    go zero e = absurd (refused-given UnknownSize t (sym (entry-none name zero (drop at s) refl) ∙ e))
     go (suc n) e = omega arith
 
 later : {s : List ℕ} {name at : ℕ} {t : TrueSize} → Ahead s name at t → (number 4 at s ≡ name → ⊥) → Ahead s name (at + ENTRY) t
@@ -40,7 +40,7 @@ later {s} {name} {at} a n =
     record {
       left = a .left - 1;
       inside = omega (arith, a .inside, k);
-      is = sym (entry-later name (a .left) at s k n) ∙ a .is;
+      is = sym (entry-later name (a .left) _ at s refl n) ∙ a .is;
     }
 
 here : {s : List ℕ} {name at : ℕ} {t : TrueSize} → Ahead s name at t → number 4 at s ≡ name → t ≡ record { bytes = number 8 (at + 4) s }

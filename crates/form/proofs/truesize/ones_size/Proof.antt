@@ -18,7 +18,9 @@ returns c = sym (ap sizeAs (ones-riff _ _ _ _ (sym (c .before .is-wide .ensures)
 
 known-size-requires : tie.Need-known-size-requires
 known-size-requires c κs =
-    c .before .before .before .before .pre .inside (sym (c .before .is-wide .ensures) ∙ not-false _ (c .if1 .left))
+    let f = c .before .before .before .before .pre in
+    let w = sym (c .before .is-wide .ensures) ∙ not-false _ (c .if1 .left) in
+    (f .inside w, f .few w)
 
 returns-2 : tie.Need-returns-2
 unfolding entriesOf
