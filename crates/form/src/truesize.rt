@@ -98,7 +98,8 @@ fn ones_size(file: &[u8], head: Head, name: u64) -> Size
     known_size(file, ds64, name)
 }
 
-// The size of a chunk that ds64 is known to give: nothing is left to refuse.
+// The size of a chunk that ds64 is known to give: nothing is left to refuse, and an entry that isn't among the first 15 is
+// the 16th.
 pub fn known(file: &[u8], head: Head, name: u64) -> TrueSize
     requires { ⌜ Knows head (now file) name ⌝ }
     ensures { λ r. ⌜ IsKnown head (now (file .entry)) name r ⌝ }
@@ -108,9 +109,16 @@ pub fn known(file: &[u8], head: Head, name: u64) -> TrueSize
             bytes: head.ds64.data_size,
         };
     }
+    let mut left = Ds64::LIMIT - 1;
     let mut at = Ds64::END as usize;
-    while le::read4(file, at) != name {
+    while 0 < left {
+        if le::read4(file, at) == name {
+            return TrueSize {
+                bytes: le::read8(file, at + 4),
+            };
+        }
         at += Ds64::ENTRY as usize;
+        left -= 1;
     }
     TrueSize {
         bytes: le::read8(file, at + 4),
