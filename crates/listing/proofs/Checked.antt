@@ -110,4 +110,3 @@ listed-listing s l h =
     ∙ andThen-at (endedAs (headers (l .head) s .end) (headers (l .head) s .rows)) _ (l .rows)
     (ap (λ (w : Walked). endedAs (w .end) (w .rows)) (laid-walk LIMIT (h .laid) (h .few)))
     ∙ check-true (chunksGood (l .rows)) _ _ (chunked-good (l .rows) (h .chunked))
-

@@ -196,4 +196,3 @@ chunksAs h n =
 unfoldable pub bareAs : ℕ → ℕ → Refusal
 unfolding pick
 bareAs len end = pick (eqb end len) BadChunkSet CutHeader
-

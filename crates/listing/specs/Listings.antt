@@ -52,4 +52,3 @@ listing s =
     andThen (endedAs (headers h s .end) (headers h s .rows)) λ rows.
     check (chunksGood rows) BadChunkSet
     (given (record { head = h; rows = rows }))
-
