@@ -37,14 +37,14 @@ unfolding pick
 placed len e = pick (leb (past e) len) (Chunk e (past e)) (Stop (Refused PastEnd))
 
 -- the chunk of a true size, or the rule's refusal
-unfoldable pub sized : ℕ → ℕ → ℕ → Answer TrueSize → Turn
+unfoldable pub sized : (len at name : ℕ) → Answer TrueSize → Turn
 sized len at name (refused r) = Stop (Refused r)
 sized len at name (given size) = placed len (entryOf (at + 8) name size)
 
 -- What stands at an offset of a file of len bytes whose header there has this name and size field, where room more
 -- headers may come: the end; 6, "1 to 7 bytes left where a header is due"; 9, "a 65th header"; the rule's refusal; 8;
 -- or the chunk.
-unfoldable pub step : Rule → ℕ → ℕ → ℕ → ℕ → ℕ → Turn
+unfoldable pub step : (rule : Rule) (len room at name own : ℕ) → Turn
 unfolding pick
 step rule len room at name own =
     pick (eqb at len) (Stop Accepted)
@@ -52,7 +52,7 @@ step rule len room at name own =
     (pick (eqb room 0) (Stop (Refused TooMany))
     (sized len at name (rule at name own))))
 
-unfoldable pub stepAt : Rule → List ℕ → ℕ → ℕ → Turn
+unfoldable pub stepAt : (rule : Rule) (s : List ℕ) (room at : ℕ) → Turn
 stepAt rule s room at = step rule (length s) room at (number 4 at s) (number 4 (at + 4) s)
 
 -- what a walk shows, and how it ends
@@ -66,7 +66,7 @@ follow (Chunk e next) rest = record { rows = e ∷ rest next .rows; end = rest n
 
 -- "it holds an offset, at first 12, and a list, at first empty. Where the offset is L it ends with no refusal." A step
 -- with room 0 is never a chunk, so what would follow it there is never reached.
-unfoldable pub walk : Rule → List ℕ → ℕ → ℕ → Walked
+unfoldable pub walk : (rule : Rule) (s : List ℕ) (room at : ℕ) → Walked
 walk rule s zero at = follow (stepAt rule s zero at) (λ next. record { rows = []; end = Refused TooMany })
 walk rule s (suc room) at = follow (stepAt rule s (suc room) at) (λ next. walk rule s room next)
 

@@ -53,13 +53,13 @@ unfoldable pub bitsGood : ℕ → Bool
 bitsGood bits = eqb bits 8 || eqb bits 16 || eqb bits 24 || eqb bits 32
 
 -- "Channels and rate are at least 1. .. Block is channels x bits / 8."
-unfoldable pub samplesGood : ℕ → ℕ → ℕ → ℕ → Bool
+unfoldable pub samplesGood : (channels rate block bits : ℕ) → Bool
 unfolding every
 samplesGood channels rate block bits =
     every (leb 1 channels ∷ leb 1 rate ∷ bitsGood bits ∷ eqb block (channels * bits / 8) ∷ [])
 
 -- "valid bits (1 to bits), channel mask (any)" of 40 bytes; a shorter payload has neither, and its record zeros
-unfoldable pub validGood : ℕ → ℕ → ℕ → ℕ → Bool
+unfoldable pub validGood : (size bits valid mask : ℕ) → Bool
 unfolding pick every
 validGood size bits valid mask =
     pick (eqb size 40)

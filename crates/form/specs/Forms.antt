@@ -50,7 +50,7 @@ ENTRY = 12
 -- ds64's rules, of the first header's name and size and of the entry count, in a file of len bytes: "must have ds64 as
 -- first chunk, at byte 12", "Its own size field is never all ones", "The payload is at least 28 + 12 x count bytes; count
 -- is at most 16", "payload and pad end by L"
-unfoldable pub ds64Good : ℕ → ℕ → ℕ → ℕ → Bool
+unfoldable pub ds64Good : (len name size count : ℕ) → Bool
 unfolding every
 ds64Good len name size count =
     every

@@ -72,7 +72,7 @@ chunked-good rows c =
 
 -- ---- the listing
 
-pub record Listed (s : List ℕ) (l : Listing) : Type 0 where
+pub record Checked (s : List ℕ) (l : Listing) : Type 0 where
   pub opened : Opened s (l .head)
   pub laid : Laid (trueSize (l .head) (entriesOf (l .head) s)) s 12 (l .rows)
   pub few : length (l .rows) ≤ LIMIT
@@ -83,19 +83,19 @@ unfolding endedAs
 ended Accepted rows shown e = (refl, given-inj shown rows e)
 ended (Refused r) rows shown e = absurd (refused-given r rows e)
 
-pub listing-listed : (s : List ℕ) (l : Listing) → listing s ≡ given l → Listed s l
+pub listing-checked : (s : List ℕ) (l : Listing) → listing s ≡ given l → Checked s l
 unfolding listing headers
-listing-listed s l e =
+listing-checked s l e =
     let c1 = andThen-given (headOf s) _ l e in
     let c2 = andThen-given (endedAs (headers (c1 .0) s .end) (headers (c1 .0) s .rows)) _ l (c1 .2) in
     let c3 = check-given (chunksGood (c2 .0)) _ _ l (c2 .2) in
     gather (c1 .0) (c2 .0) (c1 .1) (ended _ _ _ (c2 .1)) (c3 .0) (given-inj _ _ (c3 .1))
   where
     gather : (h : Head) (rows : List Entry) → headOf s ≡ given h → (headers h s .end ≡ Accepted) × (headers h s .rows ≡ rows)
-        → chunksGood rows ≡ true → record { head = h; rows = rows } ≡ l → Listed s l
+        → chunksGood rows ≡ true → record { head = h; rows = rows } ≡ l → Checked s l
     gather h rows head walks good is =
         let w = walk-laid (trueSize h (entriesOf h s)) s LIMIT 12 (walks .0) in
-        subst (Listed s) is
+        subst (Checked s) is
         (record {
           opened = head-opened s h head;
           laid = subst (Laid (trueSize h (entriesOf h s)) s 12) (walks .1) (w .laid);
@@ -103,9 +103,9 @@ listing-listed s l e =
           chunked = good-chunked rows good;
         })
 
-pub listed-listing : (s : List ℕ) (l : Listing) → Listed s l → listing s ≡ given l
+pub checked-listing : (s : List ℕ) (l : Listing) → Checked s l → listing s ≡ given l
 unfolding listing headers endedAs
-listed-listing s l h =
+checked-listing s l h =
     andThen-at (headOf s) _ (l .head) (opened-head s (l .head) (h .opened))
     ∙ andThen-at (endedAs (headers (l .head) s .end) (headers (l .head) s .rows)) _ (l .rows)
     (ap (λ (w : Walked). endedAs (w .end) (w .rows)) (laid-walk LIMIT (h .laid) (h .few)))

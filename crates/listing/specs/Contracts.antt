@@ -116,12 +116,12 @@ unfoldable pub nextOf : ℕ → List ℕ → ℕ
 nextOf place s = place + number 4 (place - 4) s + number 4 (place - 4) s % 2 + 8
 
 -- a chunk that no rule asks for, with a whole header after it: its name starts with none of b to f
-unfoldable pub passes : ℕ → ℕ → List ℕ → Bool
+unfoldable pub passes : (near place : ℕ) → List ℕ → Bool
 unfolding every
 passes near place s =
     every (not (leb 98 (getD s (place - 8) 0) && leb (getD s (place - 8) 0) 102) ∷ leb (nextOf place s) near ∷ [])
 
-unfoldable pub passedFrom : List ℕ → ℕ → ℕ → ℕ → Passed
+unfoldable pub passedFrom : (s : List ℕ) (near room place : ℕ) → Passed
 unfolding pick
 passedFrom s near zero place = record { place = place; room = 0 }
 passedFrom s near (suc room) place =

@@ -31,7 +31,7 @@ use Rattle.form.proofs.Heads.{riff-head, form-own}
 use Rattle.form.proofs.Sizes.{own-true, ds64-first, riff-own}
 use Rattle.fmt.specs.declared.Format.{Format}
 use Rattle.wave.specs.Scans.{Scan}
-use Rattle.listing.proofs.Checked.{Listed}
+use Rattle.listing.proofs.Checked.{Checked}
 use Rattle.upgrade.specs.declared.Target.{Target}
 use Rattle.upgrade.specs.declared.Target.the-variants as target
 use Rattle.upgrade.specs.Upgrades.{hasFact, frames, thirdFor}
@@ -73,7 +73,7 @@ OffFact j rest n at = Off n at 4 (find FACT (j ∷ rest) .place)
 pub record Take (s : List ℕ) (h : Head) (j : Entry) (rest : List Entry) : Type 0 where
   pub bytes : Bytes s
   pub riff : h .form ≡ Riff
-  pub listed : Listed s (record { head = h; rows = j ∷ rest })
+  pub listed : Checked s (record { head = h; rows = j ∷ rest })
   pub junk : j .name ≡ JUNK
   pub holds : LEAST ≤ j .size
 

@@ -29,7 +29,7 @@ use Rattle.form.proofs.Heads.{Opened, wide-head, ds64-rules}
 use Rattle.listing.specs.Listings.{headers}
 use Rattle.wave.specs.Scans.{Scan, scan, rowsOf, walkFrom, walk32}
 use Rattle.wave.specs.Words.{scanTable, ScanDone, walkTable, WalkDone}
-use Rattle.wave.specs.Contracts.{Lists, Fills}
+use Rattle.wave.specs.Contracts.{WalkStored, Fills}
 use Rattle.wave.proofs.Scanned.{scan-scanned}
 use Rattle.wave.proofs.Stored.{none-tabled}
 
@@ -152,7 +152,7 @@ module _ (s w : List ℕ) where
         words = none-tabled w (omega arith) ∙ sym (pick-true _ _ _ e ∙ ap (λ (x : Answer ℕ). tabled (walkFrom x s .rows) w) q);
       }
 
-  pub walk-done : (r : Verdict) (v : List ℕ) → WORDS ≤ length w → openFor32 s ≡ given 12 → Lists ownSize s w r v → WalkDone s w r v
+  pub walk-done : (r : Verdict) (v : List ℕ) → WORDS ≤ length w → openFor32 s ≡ given 12 → WalkStored ownSize s w r v → WalkDone s w r v
   unfolding walk32 walkFrom
   walk-done r v h q d =
       let e = le-leb WORDS (length w) h in

@@ -35,7 +35,7 @@ use Rattle.listing.specs.Listings.{Listing, listing}
 use Rattle.wave.specs.Scans.{payload, wholeBlocks, judged, Scan, scan, factCount}
 use Rattle.listing.specs.Contracts.{payloadOf, factIn, keptOf}
 use Rattle.wave.specs.Contracts.{FmtFits, judgedAs, judgeOf, examinedAs, acceptedOf}
-use Rattle.listing.proofs.Checked.{listing-listed}
+use Rattle.listing.proofs.Checked.{listing-checked}
 use Rattle.wave.proofs.Scanned.{scan-scanned}
 
 -- ---- what is judged
@@ -44,7 +44,7 @@ use Rattle.wave.proofs.Scanned.{scan-scanned}
 pub fmt-fits : (s : List ℕ) (l : Listing) → listing s ≡ given l → FmtFits (keptOf s l) s
 unfolding keptOf payloadOf past
 fmt-fits s l e =
-    let d = listing-listed s l e in
+    let d = listing-checked s l e in
     let y = laid-lies (d .laid) (found FMT (l .rows) (omega (arith, d .chunked .oneFmt)) .mem) in
     record { inside = omega (arith, y .ends) }
 

@@ -9,11 +9,11 @@ use Rattle.chunk.specs.Tables.{find}
 use Rattle.chunk.proofs.Checks.{given-inj, andThen-given, andThen-at}
 use Rattle.fmt.specs.declared.Format.{Format}
 use Rattle.listing.specs.Listings.{Listing, listing}
-use Rattle.listing.proofs.Checked.{Listed, listing-listed, listed-listing}
+use Rattle.listing.proofs.Checked.{Checked, listing-checked, checked-listing}
 use Rattle.wave.specs.Scans.{payload, judged, Scan, scan}
 
 pub record Scanned (s : List ℕ) (a : Scan) : Type 0 where
-  pub listed : Listed s (record { head = a .head; rows = a .rows })
+  pub listed : Checked s (record { head = a .head; rows = a .rows })
   pub format : judged (payload (find FMT (a .rows)) s) (find DATA (a .rows) .size) ≡ given (a .format)
 
 pub scan-scanned : (s : List ℕ) (a : Scan) → scan s ≡ given a → Scanned s a
@@ -26,10 +26,10 @@ scan-scanned s a e =
     gather : (l : Listing) (f : Format) → listing s ≡ given l
         → judged (payload (find FMT (l .rows)) s) (find DATA (l .rows) .size) ≡ given f
         → record { head = l .head; rows = l .rows; format = f } ≡ a → Scanned s a
-    gather l f p q is = subst (Scanned s) is (record { listed = listing-listed s l p; format = q })
+    gather l f p q is = subst (Scanned s) is (record { listed = listing-checked s l p; format = q })
 
 pub scanned-scan : (s : List ℕ) (a : Scan) → Scanned s a → scan s ≡ given a
 unfolding scan
 scanned-scan s a h =
-    andThen-at (listing s) _ (record { head = a .head; rows = a .rows }) (listed-listing s _ (h .listed))
+    andThen-at (listing s) _ (record { head = a .head; rows = a .rows }) (checked-listing s _ (h .listed))
     ∙ andThen-at (judged (payload (find FMT (a .rows)) s) (find DATA (a .rows) .size)) _ (a .format) (h .format)

@@ -39,7 +39,7 @@ use Rattle.form.specs.Sizes.{trueSize, onesSize, strayDs64, entriesOf}
 use Rattle.form.proofs.Sizes.{own-true, riff-own}
 use Rattle.listing.specs.Listings.{headers}
 use Rattle.listing.specs.Contracts.{rule}
-use Rattle.wave.specs.Contracts.{rowsFrom, Lists, Finishes, Rowed, WideRows, Fills}
+use Rattle.wave.specs.Contracts.{rowsFrom, WalkStored, Finishes, Rowed, WideRows, Fills}
 
 -- ---- rows stored from a word on
 
@@ -147,7 +147,7 @@ storing-next s w₀ w v place used e to g l q p =
 -- the rest of the walk is stored
 storing-ends : (s w₀ w : List ℕ) (place used : ℕ) (rest : Walked) (v : Verdict) (w' : List ℕ) → Storing s w₀ w place used
     → WORDS ≤ length w₀ → length (all s .rows) ≤ LIMIT → from s used place ≡ rest → Finishes used rest w v w'
-    → Lists ownSize s w₀ v w'
+    → WalkStored ownSize s w₀ v w'
 storing-ends s w₀ w place used rest v w' g l few q f =
     record {
       verdict = f .verdict ∙ ap (λ (x : Walked). x .end) (sym q) ∙ g .end;
@@ -168,7 +168,7 @@ one-row (Stop r) = omega arith
 pub storing-stop : (s w₀ w : List ℕ) (place used : ℕ) (found : Step) (v : Verdict) (w' : List ℕ) → Storing s w₀ w place used
     → WORDS ≤ length w₀ → used < LIMIT → found ≡ stepOn ownSize s place
     → ((rest : ℕ → Walked) → walkAfter found rest ≡ walkAfter found full) → Finishes used (walkAfter found full) w v w'
-    → Lists ownSize s w₀ v w'
+    → WalkStored ownSize s w₀ v w'
 storing-stop s w₀ w place used found v w' g l u p q f =
     let rest : ℕ → Walked = walk ownSize s (LIMIT - (used + 1)) in
     let k = step-walks s place used (g .due) u ∙ ap (λ (x : Step). walkAfter x rest) (sym p) ∙ q rest in
@@ -177,7 +177,7 @@ storing-stop s w₀ w place used found v w' g l u p q f =
 
 -- the table is full
 pub storing-full : (s w₀ w : List ℕ) (place used : ℕ) → Storing s w₀ w place used → WORDS ≤ length w₀ → LIMIT ≤ used
-    → Lists ownSize s w₀ (Refused TooMany) (set w 0 used)
+    → WalkStored ownSize s w₀ (Refused TooMany) (set w 0 used)
 unfolding full rowsFrom
 storing-full s w₀ w place used g l u =
     let p : LIMIT - used ≡ 0 = omega arith in
@@ -186,7 +186,7 @@ storing-full s w₀ w place used g l u =
     (record { verdict = refl; words = ap (set w 0) (sym (add-zero used)) })
 
 -- no whole header at byte 12
-bare : (s w : List ℕ) (v : Verdict) → WORDS ≤ length w → stepAt ownSize s LIMIT 12 ≡ walks.Stop v → Lists ownSize s w v (set w 0 0)
+bare : (s w : List ℕ) (v : Verdict) → WORDS ≤ length w → stepAt ownSize s LIMIT 12 ≡ walks.Stop v → WalkStored ownSize s w v (set w 0 0)
 bare s w v l q =
     let k = walk-stop ownSize s LIMIT 12 v q in
     record {
@@ -194,10 +194,10 @@ bare s w v l q =
       words = none-tabled w (omega arith) ∙ sym (ap (λ (x : Walked). tabled (x .rows) w) k);
     }
 
-pub bare-end : (s w : List ℕ) → WORDS ≤ length w → length s ≡ 12 → Lists ownSize s w Accepted (set w 0 0)
+pub bare-end : (s w : List ℕ) → WORDS ≤ length w → length s ≡ 12 → WalkStored ownSize s w Accepted (set w 0 0)
 bare-end s w l h = bare s w Accepted l (step-end ownSize s LIMIT 12 (sym h))
 
-pub bare-cut : (s w : List ℕ) → WORDS ≤ length w → 12 < length s → length s < 20 → Lists ownSize s w (Refused CutHeader) (set w 0 0)
+pub bare-cut : (s w : List ℕ) → WORDS ≤ length w → 12 < length s → length s < 20 → WalkStored ownSize s w (Refused CutHeader) (set w 0 0)
 bare-cut s w l h k = bare s w (Refused CutHeader) l (step-cut ownSize s LIMIT 12 h (omega arith))
 
 -- ---- an accepted file, read once more

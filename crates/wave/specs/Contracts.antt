@@ -64,7 +64,7 @@ countAt h place s = samples.Count (factCount (h .form) (h .ds64 .third) (number 
 -- ---- rows into words
 
 -- a walk from byte 12 into words
-pub record Lists (r : Rule) (s w : List ℕ) (v : Verdict) (w' : List ℕ) : Type 0 where
+pub record WalkStored (r : Rule) (s w : List ℕ) (v : Verdict) (w' : List ℕ) : Type 0 where
   pub verdict : v ≡ walk r s LIMIT 12 .end
   pub words : w' ≡ tabled (walk r s LIMIT 12 .rows) w
 

@@ -12,7 +12,7 @@ ghost use Rattle.chunk.specs.Tables.{tabled, LIMIT, WORDS};
 ghost use Rattle.chunk.specs.Walks.{ownSize, walk};
 ghost use Rattle.chunk.specs.Contracts.{walkAfter, full};
 ghost use Rattle.listing.specs.Listings.{headers};
-ghost use Rattle.wave.specs.Contracts.{Lists, Finishes, Fills, Rowed, WideRows, rowsFrom};
+ghost use Rattle.wave.specs.Contracts.{WalkStored, Finishes, Fills, Rowed, WideRows, rowsFrom};
 
 // How the 32-bit walk ends at a step after which no header may come: what it found is stored, and the number of rows.
 fn finish(found: Step, used: usize, words: &mut [u64]) -> Verdict
@@ -46,7 +46,7 @@ fn finish(found: Step, used: usize, words: &mut [u64]) -> Verdict
 // The 32-bit walk from the header at byte 12, its chunks stored as rows.
 fn walk32(file: &[u8], words: &mut [u64]) -> Verdict
     requires { ⌜ (20 ≤ length (now file)) × (WORDS ≤ length (now words)) ⌝ }
-    ensures { λ r. ⌜ Lists ownSize (now (file .entry)) (now (words .entry)) r (now (words .exit)) ⌝ }
+    ensures { λ r. ⌜ WalkStored ownSize (now (file .entry)) (now (words .entry)) r (now (words .exit)) ⌝ }
 {
     let mut place: u64 = 20;
     let mut used: usize = 0;
@@ -66,7 +66,7 @@ fn walk32(file: &[u8], words: &mut [u64]) -> Verdict
 // The 32-bit walk past checks 1, 2 and 5.
 pub fn list32(file: &[u8], words: &mut [u64]) -> Verdict
     requires { ⌜ (12 ≤ length (now file)) × (WORDS ≤ length (now words)) ⌝ }
-    ensures { λ r. ⌜ Lists ownSize (now (file .entry)) (now (words .entry)) r (now (words .exit)) ⌝ }
+    ensures { λ r. ⌜ WalkStored ownSize (now (file .entry)) (now (words .entry)) r (now (words .exit)) ⌝ }
 {
     let len = file.len();
     if 20 <= len {
