@@ -9,7 +9,7 @@ use native.Mathlib.Nat.{mul-le-mul}
 use native.Mathlib.Omega.{arith}
 use lib.ListN.{length}
 use lib.Dec.{eqb, ltb, leb, lit<}
-use borrow.Author.Tests.{eqb-true, eq-eqb, ne-eqb, ltb-true, leb-true, lt-ltb}
+use borrow.Author.Tests.{eqb-true, ne-eqb, ltb-true, leb-true, lt-ltb, lt-leb, le-leb}
 use Rattle.le.specs.Number.{Bytes, bytes, number}
 use Rattle.le.specs.Choice.{pick, every}
 use Rattle.le.proofs.Laws.{number-bound}
@@ -18,7 +18,7 @@ use Rattle.chunk.specs.Refusals.{Answer, refused, given, check}
 use Rattle.chunk.proofs.Checks.{true-false, check-given, given-inj, picked}
 use Rattle.fmt.specs.declared.Format.{Format}
 use Rattle.fmt.specs.Formats.{PCM, EXTENSIBLE, SUBFORMAT-LOW, SUBFORMAT-HIGH, sizeGood, bitsGood, samplesGood, validGood, recordGood, recordIn, extraGood, formatIn}
-use Rattle.fmt.specs.Contracts.{Fields, Plain}
+use Rattle.fmt.specs.Contracts.{restGood}
 use Rattle.fmt.specs.Writing.{extraBytes, fieldsFit}
 
 -- ---- rules
@@ -106,10 +106,6 @@ valid-none s w v m h e =
     (eqb-true _ _ (k .0), eqb-true _ _ (k .1 .0))
 
 -- the rules of a good record
-pub valid-absent : (s w v m : ℕ) → (s ≡ 40 → ⊥) → v ≡ 0 → m ≡ 0 → validGood s w v m ≡ true
-unfolding validGood
-valid-absent s w v m k p q = rw (ne-eqb s 40 k, eq-eqb v 0 p, eq-eqb m 0 q)
-
 pub record Good (f : Format) : Type 0 where
   pub size : sizeGood (f .tag) (f .size) ≡ true
   pub samples : samplesGood (f .channels) (f .rate) (f .block) (f .bits) ≡ true
@@ -157,11 +153,6 @@ gathered p f e₀ e₁ e₂ e₃ e₄ e₅ e₆ e₇ e₈ = joined e₀ e₁ e�
 
 -- ---- payloads
 
--- a record that was read has valid bits and a mask only of 40 bytes
-pub plain : (p : List ℕ) (f : Format) → Fields p f → Plain f
-unfolding recordIn
-plain p f h = subst Plain (sym (h .is)) (record { channels-fit = subst (λ (x : Format). x .channels < 65536) (h .is) (h .channels-fit); none = λ k. (rw (ne-eqb (length p) 40 k), rw (ne-eqb (length p) 40 k)) })
-
 pub extra-bad : (p : List ℕ) → extraGood p ≡ false → formatIn p ≡ refused BadFmt
 unfolding formatIn
 extra-bad p e = simp e
@@ -181,6 +172,80 @@ short p h = record-bad p (simp (size-short (recordIn p .tag) (length p) h))
 pub accepted : (p : List ℕ) → extraGood p ≡ true → recordGood (recordIn p) ≡ true → formatIn p ≡ given (recordIn p)
 unfolding formatIn
 accepted p e r = simp (e, r)
+
+-- ---- a payload's record, rule by rule
+
+-- of 16 bytes nothing is left to judge
+pub rest-16 : (p : List ℕ) → length p ≡ 16 → restGood p (recordIn p) ≡ true
+unfolding restGood extraGood validGood recordIn
+rest-16 p e = rw e
+
+pub rest-18 : (p : List ℕ) → length p ≡ 18 → eqb (number 2 16 p) 0 ≡ restGood p (recordIn p)
+unfolding restGood extraGood validGood recordIn
+rest-18 p e = rw e (last _)
+
+module _ (p : List ℕ) (f : Format) (long : length p ≡ 40) (size : f .size ≡ 40) where
+  pub rest-extra : (number 2 16 p ≡ 22 → ⊥) → false ≡ restGood p f
+  unfolding restGood extraGood
+  rest-extra n = simp (long, ne-eqb _ _ n)
+
+  module _ (extra : number 2 16 p ≡ 22) where
+    pub rest-low : (number 8 24 p ≡ SUBFORMAT-LOW → ⊥) → false ≡ restGood p f
+    unfolding restGood extraGood
+    rest-low n = simp (long, extra, ne-eqb _ _ n)
+
+    module _ (low : number 8 24 p ≡ SUBFORMAT-LOW) where
+      pub rest-high : (number 8 32 p ≡ SUBFORMAT-HIGH → ⊥) → false ≡ restGood p f
+      unfolding restGood extraGood
+      rest-high n = simp (long, extra, low, ne-eqb _ _ n)
+
+      module _ (high : number 8 32 p ≡ SUBFORMAT-HIGH) where
+        pub rest-none : f .valid < 1 → false ≡ restGood p f
+        unfolding restGood extraGood validGood
+        rest-none v = simp (long, extra, low, high, size, lt-leb _ _ v)
+
+        pub rest-some : 1 ≤ f .valid → leb (f .valid) (f .bits) ≡ restGood p f
+        unfolding restGood extraGood validGood
+        rest-some v = simp (long, extra, low, high, size, le-leb _ _ v) (twice _)
+          where
+            twice : (b : Bool) → b ≡ pick (pick b true false) true false
+            twice true = refl
+            twice false = refl
+
+module _ (p : List ℕ) (f : Format) (is : f ≡ recordIn p) where
+  pub size-bad : sizeGood (f .tag) (f .size) ≡ false → formatIn p ≡ refused BadFmt
+  unfolding recordGood
+  size-bad e = record-bad p (ap recordGood (sym is) ∙ simp e)
+
+  pub samples-bad : samplesGood (f .channels) (f .rate) (f .block) (f .bits) ≡ false → formatIn p ≡ refused BadFmt
+  unfolding recordGood
+  samples-bad e = record-bad p (ap recordGood (sym is) ∙ rw e (cases (sizeGood (f .tag) (f .size))))
+    where
+      cases : (b : Bool) → pick b false false ≡ false
+      cases true = refl
+      cases false = refl
+
+  pub rest-bad : restGood p f ≡ false → formatIn p ≡ refused BadFmt
+  unfolding restGood recordGood
+  rest-bad e = go (extraGood p) refl (validGood (f .size) (f .bits) (f .valid) (f .mask)) refl
+    where
+      none : (a b : Bool) → pick a (pick b false false) false ≡ false
+      none true true = refl
+      none true false = refl
+      none false b = refl
+
+      go : (x : Bool) → extraGood p ≡ x → (v : Bool) → validGood (f .size) (f .bits) (f .valid) (f .mask) ≡ v → formatIn p ≡ refused BadFmt
+      go false x v y = extra-bad p x
+      go true x false y =
+          record-bad p (ap recordGood (sym is) ∙ rw y (none (sizeGood (f .tag) (f .size)) (samplesGood (f .channels) (f .rate) (f .block) (f .bits))))
+      go true x true y = absurd (true-false (restGood p f) (every-of (_ ∷ _ ∷ []) (x, (y, tt))) e)
+
+  pub all-good : sizeGood (f .tag) (f .size) ≡ true → samplesGood (f .channels) (f .rate) (f .block) (f .bits) ≡ true → restGood p f ≡ true
+      → formatIn p ≡ given f
+  unfolding restGood recordGood
+  all-good s m e =
+      let k = all (extraGood p ∷ validGood (f .size) (f .bits) (f .valid) (f .mask) ∷ []) e in
+      accepted p (k .0) (ap recordGood (sym is) ∙ every-of (_ ∷ _ ∷ _ ∷ []) (s, (m, (k .1 .0, tt)))) ∙ ap given (sym is)
 
 -- ---- what callers use of an accepted payload
 

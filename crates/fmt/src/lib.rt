@@ -8,8 +8,8 @@ ghost use mathlib.Core.Path.{_≡_};
 ghost use Prim.Native.Nat.{_≤_, _<_};
 ghost use lib.ListN.{length};
 ghost use lib.Seq.{sets};
-ghost use Rattle.fmt.specs.Formats.{sizeGood, bitsGood, samplesGood, validGood, recordGood, extraGood, formatIn, readAs};
-ghost use Rattle.fmt.specs.Contracts.{Fields, Plain};
+ghost use Rattle.fmt.specs.Formats.{sizeGood, bitsGood, samplesGood, validGood, recordGood, formatIn, readAs};
+ghost use Rattle.fmt.specs.Contracts.{Fields, Longer, restGood};
 ghost use Rattle.fmt.specs.Writing.{headBytes, extraBytes, fieldsFit, writable, Writes};
 
 // A format record, which keeps the length of its payload.
@@ -100,25 +100,6 @@ fn record_good(format: Format) -> bool
     valid_good(format.size, format.bits, format.valid, format.mask)
 }
 
-// The rules of the bytes that a record does not keep: the extra length and the subformat.
-fn extra_good(payload: &[u8]) -> bool
-    ensures { λ r. ⌜ r ≡ extraGood (now (payload .entry)) ⌝ }
-{
-    if payload.len() == 18 {
-        return le::read2(payload, 16) == 0;
-    }
-    if payload.len() != 40 {
-        return true;
-    }
-    if le::read2(payload, 16) != 22 {
-        return false;
-    }
-    if le::read8(payload, 24) != 0x0010_0000_0000_0001 {
-        return false;
-    }
-    le::read8(payload, 32) == 0x719b_3800_aa00_0080
-}
-
 // The fields of a payload, judged by nothing.
 fn fields(payload: &[u8]) -> Format
     requires { ⌜ 16 ≤ length (now payload) ⌝ }
@@ -143,35 +124,44 @@ fn fields(payload: &[u8]) -> Format
     }
 }
 
-// The rules that a record shows, of one that was read: a payload of another length than 40 has no valid bits to judge.
-fn read_good(format: Format) -> bool
-    requires { ⌜ Plain format ⌝ }
-    ensures { λ r. ⌜ r ≡ recordGood format ⌝ }
+// What is left to judge of a payload of 18 or 40 bytes: the extra length, and of 40 the subformat and the valid bits.
+fn rest_good(payload: &[u8], record: Format) -> bool
+    requires { ⌜ Longer (now payload) «record» ⌝ }
+    ensures { λ r. ⌜ r ≡ restGood (now (payload .entry)) «record» ⌝ }
 {
-    if !size_good(format.tag, format.size) {
+    if payload.len() == 18 {
+        return le::read2(payload, 16) == 0;
+    }
+    if le::read2(payload, 16) != 22 {
         return false;
     }
-    if !samples_good(format.channels, format.rate, format.block, format.bits) {
+    if le::read8(payload, 24) != 0x0010_0000_0000_0001 {
         return false;
     }
-    if format.size != 40 {
-        return true;
+    if le::read8(payload, 32) != 0x719b_3800_aa00_0080 {
+        return false;
     }
-    valid_good(format.size, format.bits, format.valid, format.mask)
+    1 <= record.valid && record.valid <= record.bits
 }
 
-// The record of a payload, which may be any bytes at all.
+// The record of a payload, which may be any bytes at all. Most have 16.
 pub fn read(payload: &[u8]) -> Reading
     ensures { λ r. ⌜ r ≡ readAs (formatIn (now (payload .entry))) ⌝ }
 {
     if payload.len() < 16 {
         return Reading::Refused(Refusal::BadFmt);
     }
-    if !extra_good(payload) {
+    let record = fields(payload);
+    if !size_good(record.tag, record.size) {
         return Reading::Refused(Refusal::BadFmt);
     }
-    let record = fields(payload);
-    if !read_good(record) {
+    if !samples_good(record.channels, record.rate, record.block, record.bits) {
+        return Reading::Refused(Refusal::BadFmt);
+    }
+    if record.size == 16 {
+        return Reading::Record(record);
+    }
+    if !rest_good(payload, record) {
         return Reading::Refused(Refusal::BadFmt);
     }
     Reading::Record(record)
