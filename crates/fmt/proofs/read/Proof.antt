@@ -9,7 +9,8 @@ use lib.ListN.{length}
 use borrow.Author.Needs.{needs}
 use borrow.Author.Tests.{not-true, not-false}
 use Rattle.fmt.specs.declared.Format.{Format}
-use Rattle.fmt.specs.Formats.{recordIn, sizeGood, readAs}
+use Rattle.fmt.specs.declared.Reading.the-variants as reading
+use Rattle.fmt.specs.Formats.{recordIn, sizeGood, formatIn, readAs}
 use Rattle.fmt.specs.Contracts.{restGood}
 use Rattle.fmt.proofs.Laws.{size-cases, short, rest-16, size-bad, samples-bad, rest-bad, all-good}
 use Rattle.fmt.proofs.read.Statement.{statement}
@@ -51,44 +52,38 @@ returns-3 c =
     (samples-bad _ _ (c .before .before .before .before .fields .ensures .is)
     (sym (c .before .samples-good .ensures) ∙ not-true _ (c .if3 .taken))))
 
-returns-4 : tie.Need-returns-4
+-- past the size and the samples: the record is the payload's, its size is good, and it is given if the rest is good
+abbrev payload : tie.Else3 → List ℕ
+payload c = c .before .before .before .before .before .before .before .args .payload .now
+
+abbrev found : tie.Else3 → Format
+found c = c .before .before .before .before .fields .result
+
+is : (c : tie.Else3) → found c ≡ recordIn (payload c)
+is c = c .before .before .before .before .fields .ensures .is
+
+sized : (c : tie.Else3) → sizeGood (found c .tag) (found c .size) ≡ true
+sized c = sym (c .before .before .before .size-good .ensures) ∙ not-false _ (c .before .before .if2 .left)
+
+whole : (c : tie.Else3) → restGood (payload c) (found c) ≡ true → reading.Record (found c) ≡ readAs (formatIn (payload c))
 unfolding readAs
+whole c r = sym (ap readAs (all-good _ _ (is c) (sized c) (sym (c .before .samples-good .ensures) ∙ not-false _ (c .if3 .left)) r))
+
+returns-4 : tie.Need-returns-4
 returns-4 c =
     let b = c .before .before in
-    let e = b .before .before .before .before .fields .ensures .is in
-    sym
-    (ap readAs
-    (all-good _ _ e
-    (sym (b .before .before .before .size-good .ensures) ∙ not-false _ (b .before .before .if2 .left))
-    (sym (b .before .samples-good .ensures) ∙ not-false _ (b .if3 .left))
-    (ap (restGood _) e ∙ rest-16 _ (sym (same-size _ e) ∙ c .if4 .taken))))
+    whole b (ap (restGood _) (is b) ∙ rest-16 _ (sym (same-size _ (is b)) ∙ c .if4 .taken))
 
 rest-good-requires : tie.Need-rest-good-requires
-rest-good-requires c κs =
-    let b = c .before .before in
-    let e = b .before .before .before .before .fields .ensures .is in
-    record {
-      is = e;
-      long = longer _ e (sym (b .before .before .before .size-good .ensures) ∙ not-false _ (b .before .before .if2 .left)) (c .if4 .left);
-    }
+rest-good-requires c κs = let b = c .before .before in record { is = is b; long = longer _ (is b) (sized b) (c .if4 .left) }
 
 returns-5 : tie.Need-returns-5
 unfolding readAs
 returns-5 c =
-    let e = c .before .before .before .before .before .before .before .before .fields .ensures .is in
-    sym (ap readAs (rest-bad _ _ e (sym (c .before .rest-good .ensures) ∙ not-true _ (c .if5 .taken))))
+    sym (ap readAs (rest-bad _ _ (is (c .before .before .before .before)) (sym (c .before .rest-good .ensures) ∙ not-true _ (c .if5 .taken))))
 
 returns-6 : tie.Need-returns-6
-unfolding readAs
-returns-6 c =
-    let b = c .before .before .before .before in
-    let e = b .before .before .before .before .fields .ensures .is in
-    sym
-    (ap readAs
-    (all-good _ _ e
-    (sym (b .before .before .before .size-good .ensures) ∙ not-false _ (b .before .before .if2 .left))
-    (sym (b .before .samples-good .ensures) ∙ not-false _ (b .if3 .left))
-    (sym (c .before .rest-good .ensures) ∙ not-false _ (c .if5 .left))))
+returns-6 c = whole (c .before .before .before .before) (sym (c .before .rest-good .ensures) ∙ not-false _ (c .if5 .left))
 
 pub read-spec : {M : Type 1} → statement M
 read-spec =
