@@ -170,7 +170,6 @@ module _ (rows : List Entry) where
 record Counts (rows : List Entry) (met : ℕ) : Type 0 where
   pub pair : met % 2 ^ 16 ≡ count FMT rows + 2 ^ 8 * count DATA rows
   pub fmts : count FMT rows < 2 ^ 8
-  pub datas : count DATA rows < 2 ^ 8
   pub facts : met / 2 ^ 16 % 2 ^ 8 ≡ total FACT heavy rows
   pub bexts : met / 2 ^ 24 % 2 ^ 8 ≡ count BEXT rows
   pub chnas : met / 2 ^ 32 ≡ count CHNA rows
@@ -190,7 +189,6 @@ all-counts rows few =
     record {
       pair = omega (arith, m, a, b, p, q);
       fmts = omega (arith, a, p);
-      datas = omega (arith, b, q);
       facts = omega (arith, m, a, b, c);
       bexts = omega (arith, m, a, b, c, d, u);
       chnas = omega (arith, m, a, b, c, d, v);
