@@ -9,7 +9,7 @@ use native.Mathlib.Nat.{mul-le-mul}
 use native.Mathlib.Omega.{arith}
 use lib.ListN.{length}
 use lib.Dec.{eqb, ltb, leb, lit<}
-use borrow.Author.Tests.{eqb-true, ne-eqb, ltb-true, leb-true, lt-ltb, lt-leb, le-leb}
+use borrow.Author.Tests.{eqb-true, ne-eqb, ltb-true, leb-true, lt-ltb}
 use Rattle.le.specs.Number.{Bytes, bytes, number}
 use Rattle.le.specs.Choice.{pick, every}
 use Rattle.le.proofs.Laws.{number-bound}
@@ -17,7 +17,7 @@ use Rattle.chunk.specs.declared.Refusal.the-variants.{BadFmt}
 use Rattle.chunk.specs.Refusals.{Answer, refused, given, check}
 use Rattle.chunk.proofs.Checks.{true-false, check-given, given-inj, picked}
 use Rattle.fmt.specs.declared.Format.{Format}
-use Rattle.fmt.specs.Formats.{PCM, EXTENSIBLE, SUBFORMAT-LOW, SUBFORMAT-HIGH, sizeGood, bitsGood, samplesGood, validGood, recordGood, recordIn, extraGood, formatIn}
+use Rattle.fmt.specs.Formats.{PCM, EXTENSIBLE, SUBFORMAT-LOW, SUBFORMAT-HIGH, sizeGood, bitsGood, samplesGood, validBits, validGood, recordGood, recordIn, extraGood, formatIn}
 use Rattle.fmt.specs.Contracts.{restGood}
 use Rattle.fmt.specs.Writing.{extraBytes, fieldsFit}
 
@@ -200,17 +200,9 @@ module _ (p : List ℕ) (f : Format) (long : length p ≡ 40) (size : f .size �
       rest-high n = simp (long, extra, low, ne-eqb _ _ n)
 
       module _ (high : number 8 32 p ≡ SUBFORMAT-HIGH) where
-        pub rest-none : f .valid < 1 → false ≡ restGood p f
+        pub rest-valid : validBits (f .bits) (f .valid) ≡ restGood p f
         unfolding restGood extraGood validGood
-        rest-none v = simp (long, extra, low, high, size, lt-leb _ _ v)
-
-        pub rest-some : 1 ≤ f .valid → leb (f .valid) (f .bits) ≡ restGood p f
-        unfolding restGood extraGood validGood
-        rest-some v = simp (long, extra, low, high, size, le-leb _ _ v) (twice _)
-          where
-            twice : (b : Bool) → b ≡ pick (pick b true false) true false
-            twice true = refl
-            twice false = refl
+        rest-valid = simp (long, extra, low, high, size) (last _)
 
 module _ (p : List ℕ) (f : Format) (is : f ≡ recordIn p) where
   pub size-bad : sizeGood (f .tag) (f .size) ≡ false → formatIn p ≡ refused BadFmt

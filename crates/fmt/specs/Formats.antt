@@ -58,13 +58,14 @@ unfolding every
 samplesGood channels rate block bits =
     every (leb 1 channels ∷ leb 1 rate ∷ bitsGood bits ∷ eqb block (channels * bits / 8) ∷ [])
 
--- "valid bits (1 to bits), channel mask (any)" of 40 bytes; a shorter payload has neither, and its record zeros
+-- "valid bits (1 to bits)"
+abbrev pub validBits : (bits valid : ℕ) → Bool
+validBits bits valid = every (leb 1 valid ∷ leb valid bits ∷ [])
+
+-- those of 40 bytes, and "channel mask (any)"; a shorter payload has neither, and its record zeros
 unfoldable pub validGood : (size bits valid mask : ℕ) → Bool
 unfolding pick every
-validGood size bits valid mask =
-    pick (eqb size 40)
-    (every (leb 1 valid ∷ leb valid bits ∷ []))
-    (every (eqb valid 0 ∷ eqb mask 0 ∷ []))
+validGood size bits valid mask = pick (eqb size 40) (validBits bits valid) (every (eqb valid 0 ∷ eqb mask 0 ∷ []))
 
 -- the rules that a record shows
 unfoldable pub recordGood : Format → Bool

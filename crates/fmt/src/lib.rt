@@ -8,7 +8,7 @@ ghost use mathlib.Core.Path.{_≡_};
 ghost use Prim.Native.Nat.{_≤_, _<_};
 ghost use lib.ListN.{length};
 ghost use lib.Seq.{sets};
-ghost use Rattle.fmt.specs.Formats.{sizeGood, bitsGood, samplesGood, validGood, recordGood, formatIn, readAs};
+ghost use Rattle.fmt.specs.Formats.{sizeGood, bitsGood, samplesGood, validBits, validGood, recordGood, formatIn, readAs};
 ghost use Rattle.fmt.specs.Contracts.{Fields, Longer, restGood};
 ghost use Rattle.fmt.specs.Writing.{headBytes, extraBytes, fieldsFit, writable, Writes};
 
@@ -75,15 +75,21 @@ fn samples_good(channels: u64, rate: u64, block: u64, bits: u64) -> bool
     block == channels * bits / 8
 }
 
-// Valid bits lie from 1 to bits; a record without them has zeros.
+// Valid bits lie from 1 to bits.
+fn valid_bits(bits: u64, valid: u64) -> bool
+    ensures { λ r. ⌜ r ≡ validBits bits valid ⌝ }
+{
+    1 <= valid && valid <= bits
+}
+
+// The valid bits of a record of 40 bytes; another has zeros.
 fn valid_good(size: u64, bits: u64, valid: u64, mask: u64) -> bool
     ensures { λ r. ⌜ r ≡ validGood size bits valid mask ⌝ }
 {
     if size == 40 {
-        1 <= valid && valid <= bits
-    } else {
-        valid == 0 && mask == 0
+        return valid_bits(bits, valid);
     }
+    valid == 0 && mask == 0
 }
 
 // The rules that a record shows.
@@ -141,7 +147,7 @@ fn rest_good(payload: &[u8], record: Format) -> bool
     if le::read8(payload, 32) != 0x719b_3800_aa00_0080 {
         return false;
     }
-    1 <= record.valid && record.valid <= record.bits
+    valid_bits(record.bits, record.valid)
 }
 
 // The record of a payload, which may be any bytes at all. Most have 16.

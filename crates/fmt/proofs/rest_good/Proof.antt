@@ -8,11 +8,10 @@ use native.Mathlib.Omega.{arith}
 use lib.ListN.{length}
 use lib.Dec.{eqb}
 use borrow.Author.Needs.{needs}
-use borrow.Author.Tests.{lt-leb}
 use Rattle.fmt.specs.declared.Format.{Format}
 use Rattle.fmt.specs.Formats.{recordIn}
 use Rattle.fmt.specs.Contracts.{Longer, restGood}
-use Rattle.fmt.proofs.Laws.{rest-18, rest-extra, rest-low, rest-high, rest-none, rest-some}
+use Rattle.fmt.proofs.Laws.{rest-18, rest-extra, rest-low, rest-high, rest-valid}
 use Rattle.fmt.proofs.rest_good.Statement.{statement}
 use Rattle.fmt.proofs.rest_good.Tie as tie
 
@@ -65,26 +64,19 @@ returns-4 c =
     rest-high _ _ e (size-40 l e) (sym (b .before .read22 .ensures .is) ∙ b .if2 .left) (sym (a .before .read8 .ensures .is) ∙ a .if3 .left)
     (λ x. c .if4 .taken (c .before .read82 .ensures .is ∙ x))
 
+valid-bits-requires : tie.Need-valid-bits-requires
+valid-bits-requires c κs = search needs
+
 returns-5 : tie.Need-returns-5
 returns-5 c =
-    let d = c .before .before .before in
+    let d = c .before in
     let a = d .before .before in
     let b = a .before .before in
     let l = b .before .before .before .before .pre in
     let e = of-40 l (b .before .before .if1 .left) in
-    rest-some _ _ e (size-40 l e) (sym (b .before .read22 .ensures .is) ∙ b .if2 .left) (sym (a .before .read8 .ensures .is) ∙ a .if3 .left)
-    (sym (d .before .read82 .ensures .is) ∙ d .if4 .left) (c .before .if5 .taken)
-
-returns-6 : tie.Need-returns-6
-returns-6 c =
-    let d = c .before .before in
-    let a = d .before .before in
-    let b = a .before .before in
-    let l = b .before .before .before .before .pre in
-    let e = of-40 l (b .before .before .if1 .left) in
-    lt-leb _ _ (c .if5 .left)
-    ∙ rest-none _ _ e (size-40 l e) (sym (b .before .read22 .ensures .is) ∙ b .if2 .left) (sym (a .before .read8 .ensures .is) ∙ a .if3 .left)
-    (sym (d .before .read82 .ensures .is) ∙ d .if4 .left) (c .if5 .left)
+    c .valid-bits .ensures
+    ∙ rest-valid _ _ e (size-40 l e) (sym (b .before .read22 .ensures .is) ∙ b .if2 .left) (sym (a .before .read8 .ensures .is) ∙ a .if3 .left)
+    (sym (d .before .read82 .ensures .is) ∙ d .if4 .left)
 
 pub rest-good-spec : {M : Type 1} → statement M
 rest-good-spec =
@@ -98,5 +90,5 @@ rest-good-spec =
     returns-3
     read8-requires-2
     returns-4
-    returns-5
-    returns-6)
+    valid-bits-requires
+    returns-5)
