@@ -55,11 +55,6 @@ unfolding sizeAs
 size-given (refused r) t e = absurd (let z : _≡_ {A = ℕ} 0 1 = cc in omega arith)
 size-given (given g) t e = cc
 
-pub size-refused : (x : Answer TrueSize) (r : Refusal) → sizeAs x ≡ size.Refused r → x ≡ refused r
-unfolding sizeAs
-size-refused (refused q) r e = cc
-size-refused (given g) r e = absurd (let z : _≡_ {A = ℕ} 0 1 = cc in omega arith)
-
 -- ---- check 4
 
 abbrev rulesAt : List ℕ → Type 0

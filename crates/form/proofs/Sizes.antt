@@ -10,7 +10,6 @@ use lib.Dec.{eqb}
 use borrow.Author.Tests.{eq-eqb, ne-eqb, eqb-true, not-true}
 use Rattle.le.specs.Choice.{pick}
 use Rattle.chunk.specs.declared.TrueSize.{TrueSize}
-use Rattle.chunk.specs.declared.Refusal.{Refusal}
 use Rattle.chunk.specs.declared.Refusal.the-variants.{BadDs64, UnknownSize}
 use Rattle.chunk.specs.Refusals.{Answer, refused, given}
 use Rattle.chunk.specs.Names.{DS64, DATA}
@@ -20,8 +19,10 @@ use Rattle.form.specs.declared.Form.{Form}
 use Rattle.form.specs.declared.Form.the-variants.{Riff, Rf64, Bw64}
 use Rattle.form.specs.declared.Ds64.{Ds64}
 use Rattle.form.specs.declared.Head.{Head}
+use Rattle.form.specs.declared.Size.the-variants as size
 use Rattle.form.specs.Forms.{isWide}
 use Rattle.form.specs.Sizes.{Ds64Entry, entrySize, knownSize, onesSize, strayDs64, trueSize}
+use Rattle.form.specs.Contracts.{sizeAs}
 use Rattle.form.proofs.Ds64Entries.{true-field, true-ones}
 
 -- ---- ds64's place
@@ -106,28 +107,28 @@ pub known-other : (d : Ds64) (ks : List Ds64Entry) (name : ℕ) → (name ≡ DA
 unfolding knownSize
 known-other d ks name n = pick-false _ _ _ (ne-eqb name DATA n)
 
--- what is refused is refused with 7
-module _ (r : Refusal) where
-  abbrev Only7 : Answer TrueSize → Type 0
-  Only7 x = x ≡ refused r → x ≡ refused UnknownSize
+-- where no size is known, that is 7
+abbrev Only7 : Answer TrueSize → Type 0
+Only7 x = sizeAs x ≡ size.Unknown → x ≡ refused UnknownSize
 
-  given-only : (t : TrueSize) → Only7 (given t)
-  given-only t e = absurd (refused-given r t (sym e))
+given-only : (t : TrueSize) → Only7 (given t)
+unfolding sizeAs
+given-only t e = absurd (let z : _≡_ {A = ℕ} 0 1 = cc in omega arith)
 
-  entry-only : (name : ℕ) (ks : List Ds64Entry) → Only7 (entrySize name ks)
-  unfolding entrySize
-  entry-only name [] = λ _. refl
-  entry-only name (k ∷ ks) = picked Only7 (eqb (k .name) name) _ _ (λ _. given-only _) λ _. entry-only name ks
+entry-only : (name : ℕ) (ks : List Ds64Entry) → Only7 (entrySize name ks)
+unfolding entrySize
+entry-only name [] = λ _. refl
+entry-only name (k ∷ ks) = picked Only7 (eqb (k .name) name) _ _ (λ _. given-only _) λ _. entry-only name ks
 
-  known-only : (d : Ds64) (ks : List Ds64Entry) (name : ℕ) → Only7 (knownSize d ks name)
-  unfolding knownSize
-  known-only d ks name = picked Only7 (eqb name DATA) _ _ (λ _. given-only _) λ _. entry-only name ks
+known-only : (d : Ds64) (ks : List Ds64Entry) (name : ℕ) → Only7 (knownSize d ks name)
+unfolding knownSize
+known-only d ks name = picked Only7 (eqb name DATA) _ _ (λ _. given-only _) λ _. entry-only name ks
 
-  pub ones-only : (f : Form) (d : Ds64) (ks : List Ds64Entry) (name : ℕ) → Only7 (onesSize f d ks name)
-  unfolding onesSize
-  ones-only Riff d ks name = λ _. refl
-  ones-only Rf64 d ks name = known-only d ks name
-  ones-only Bw64 d ks name = known-only d ks name
+pub ones-only : (f : Form) (d : Ds64) (ks : List Ds64Entry) (name : ℕ) → Only7 (onesSize f d ks name)
+unfolding onesSize
+ones-only Riff d ks name = λ _. refl
+ones-only Rf64 d ks name = known-only d ks name
+ones-only Bw64 d ks name = known-only d ks name
 
 -- ---- which sizes are known
 

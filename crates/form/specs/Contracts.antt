@@ -23,7 +23,7 @@ use Rattle.form.specs.Forms.{isWide, ds64Good, ds64At, headAs, wholeAs, 
 use Rattle.form.specs.Sizes.{entriesOf, onesSize}
 
 unfoldable pub sizeAs : Answer TrueSize → Size
-sizeAs (refused r) = size.Refused r
+sizeAs (refused r) = size.Unknown
 sizeAs (given t) = size.Known t
 
 -- the place of the chunk past a first chunk of a size

@@ -31,7 +31,7 @@ impl Ds64 {
     pub const ENTRY: u64 = 12;
     // Where the least payload ends in a file, past the form's 12 bytes and a header: the entries start there.
     pub const END: u64 = 20 + Ds64::LEAST;
-    // Where the most entries end.
+    // Where the entries of a full ds64 end.
     pub const FULL: u64 = Ds64::END + Ds64::ENTRY * Ds64::LIMIT;
 }
 
@@ -56,8 +56,8 @@ pub enum Opened {
     Refused(Refusal),
 }
 
-// A true size, or why none is known.
+// A true size, or none is known: 7.
 pub enum Size {
     Known(TrueSize),
-    Refused(Refusal),
+    Unknown,
 }

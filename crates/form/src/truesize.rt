@@ -43,7 +43,7 @@ fn few_entries(file: &[u8], count: u64, name: u64) -> Size
         at += Ds64::ENTRY as usize;
         left -= 1;
     }
-    Size::Refused(Refusal::UnknownSize)
+    Size::Unknown
 }
 
 // The same. A file that a full ds64 would fit in is searched at all the places where an entry may stand: the first of the
@@ -60,7 +60,7 @@ fn entry_size(file: &[u8], count: u64, name: u64) -> Size
     while i < Ds64::LIMIT {
         if le::read4(file, at) == name {
             if count <= i {
-                return Size::Refused(Refusal::UnknownSize);
+                return Size::Unknown;
             }
             return Size::Known(TrueSize {
                 bytes: le::read8(file, at + 4),
@@ -69,7 +69,7 @@ fn entry_size(file: &[u8], count: u64, name: u64) -> Size
         at += Ds64::ENTRY as usize;
         i += 1;
     }
-    Size::Refused(Refusal::UnknownSize)
+    Size::Unknown
 }
 
 // What ds64 says of a chunk whose own field is all ones.
@@ -93,7 +93,7 @@ fn ones_size(file: &[u8], head: Head, name: u64) -> Size
     let form = head.form;
     let ds64 = head.ds64;
     if !is_wide(form) {
-        return Size::Refused(Refusal::UnknownSize);
+        return Size::Unknown;
     }
     known_size(file, ds64, name)
 }

@@ -15,7 +15,7 @@ use Rattle.chunk.specs.Contracts.{HeaderAt, foundAs, stepOn}
 use Rattle.chunk.proofs.Turns.{placed-ends, ends-past}
 use Rattle.form.specs.Sizes.{entriesOf, onesSize, trueSize}
 use Rattle.form.proofs.Ds64Entries.{true-stray, true-field, true-ones}
-use Rattle.form.proofs.Opens.{size-given, size-refused}
+use Rattle.form.proofs.Opens.{size-given}
 use Rattle.form.proofs.Sizes.{other-placed, stray-placed, ones-only}
 use Rattle.form.proofs.truesize.step.Statement.{statement}
 use Rattle.form.proofs.truesize.step.Tie as tie
@@ -57,7 +57,7 @@ unfolding foundAs
 returns-2 c =
     at-header _ (c .before .before .before .before .before .before .before .before .pre .1)
     (by-ds64 (c .before .before .before)
-    ∙ ones-only _ _ _ _ _ (size-refused _ _ (sym (c .before .before .ones-size .ensures) ∙ c .enum-told .given .1)))
+    ∙ ones-only _ _ _ _ (sym (c .before .before .ones-size .ensures) ∙ c .enum-told .given .1))
 
 sub-if3 : tie.Need-sub-if3
 sub-if3 c = search needs
