@@ -106,7 +106,8 @@ factOf t = pick (eqb (factsOf t) 0) fact.None (fact.At (t .fact))
 
 -- ---- the walk
 
--- The end of the file, or nearer: no chunk past a place whose field is all ones ends by there, were that its size.
+-- The end of the file, or nearer: from a place on, no chunk whose field is all ones would end by there, were that its size.
+-- Any nearer end will do: it changes how long the walk takes, and no answer.
 pub record Near (len place near : ℕ) : Type 0 where
   pub inside : near ≤ len
   pub close : near ≤ place + ONES
@@ -154,7 +155,7 @@ tallyAs first n t w = ended (w .end)
     ended verdict.Accepted = tallied.Noted (record { tally = allNoted t (w .rows); first = first; count = n + length (w .rows) })
     ended (verdict.Refused r) = tallied.Refused r
 
--- ---- the listing and the judgement
+-- ---- the listing
 
 unfoldable pub factIn : List Entry → Fact
 unfolding pick

@@ -53,7 +53,7 @@ fn pass(file: &[u8], near: u64, from: u64, rooms: u64) -> Passed
     Passed { place, room }
 }
 
-// The end of the file, or nearer: as far as no all-ones field past a place can reach.
+// The end of the file, or nearer: an all-ones field, were it a size, would pass it from that place on.
 fn near_end(len: u64, place: u64) -> u64
     requires { ⌜ place ≤ len ⌝ }
     ensures { λ r. ⌜ Near len place r ⌝ }

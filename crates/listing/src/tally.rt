@@ -1,4 +1,4 @@
-// What the scan keeps of the chunks it passes: how often each name that check 10 asks for was met, and where.
+// What the walk keeps of the chunks it meets: how often each name that check 10 asks for was met, and where.
 use super::Payload;
 use chunk::Entry;
 use chunk::Name;
