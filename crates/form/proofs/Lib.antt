@@ -1,4 +1,2 @@
-pub mod Ds64Entries
 pub mod Heads
 pub mod Opens
-pub mod Sizes

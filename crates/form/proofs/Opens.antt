@@ -9,7 +9,6 @@ use lib.ListN.{length}
 use lib.Dec.{eqb}
 use borrow.Author.Tests.{eq-eqb, ne-eqb, le-leb, lt-leb}
 use Rattle.le.specs.Number.{number}
-use Rattle.chunk.specs.declared.TrueSize.{TrueSize}
 use Rattle.chunk.specs.declared.Refusal.{Refusal}
 use Rattle.chunk.specs.declared.Refusal.the-variants.{TooShort, NotWave, Unfinished, BadDs64, BadFormSize}
 use Rattle.chunk.specs.Refusals.{Answer, refused, given, andThen}
@@ -22,12 +21,11 @@ use Rattle.form.specs.declared.Form.the-variants.{Riff, Rf64, Bw64}
 use Rattle.form.specs.declared.Head.{Head}
 use Rattle.form.specs.declared.Opened.the-variants as opened
 use Rattle.form.specs.declared.Start.{Start}
-use Rattle.form.specs.declared.Size.the-variants as size
-use Rattle.form.specs.declared.opening.Parsed.{Parsed}
-use Rattle.form.specs.declared.opening.Parsing.{Parsing}
-use Rattle.form.specs.declared.opening.Parsing.the-variants as parsing
+use Rattle.form.specs.declared.Parsed.{Parsed}
+use Rattle.form.specs.declared.Parsing.{Parsing}
+use Rattle.form.specs.declared.Parsing.the-variants as parsing
 use Rattle.form.specs.Forms.{nameOf, isWide, formOf, ds64Good, ds64At, headAs, noDs64, formSize, wholeForm, headOf, openFor32, wholeAs, wideAs}
-use Rattle.form.specs.Contracts.{openedAs, sizeAs, placeOf, roomOf, headThen, second, parsedAs}
+use Rattle.form.specs.Contracts.{openedAs, placeOf, roomOf, headThen, second, parsedAs}
 use Rattle.form.proofs.Heads.{named-form, Ds64Rules, rules-ds64, ds64-broken, true-whole, whole-true, form-ones}
 
 -- ---- what an enum tells
@@ -49,11 +47,6 @@ opened-start s (refused r) o e = absurd (let z : _≡_ {A = ℕ} 0 1 = cc in ome
 opened-start s (given g) o e =
     let p : record { head = g; place = placeOf (g .form) s; room = roomOf (g .form) } ≡ o = cc in
     subst (Starts s (given g)) p (record { head = refl; place = refl; room = refl })
-
-pub size-given : (x : Answer TrueSize) (t : TrueSize) → sizeAs x ≡ size.Known t → x ≡ given t
-unfolding sizeAs
-size-given (refused r) t e = absurd (let z : _≡_ {A = ℕ} 0 1 = cc in omega arith)
-size-given (given g) t e = cc
 
 -- ---- check 4
 

@@ -1,30 +1,19 @@
--- What the code alone needs: its enums for the answers of Forms and Sizes, and the parts that it makes them of.
-use Prim.Native.Nat.{ℕ, _+_, _-_, _*_, _%_, _≤_, _<_}
-use mathlib.Core.Path.{_≡_}
-use mathlib.Core.Bool.{true}
+-- What the code alone needs: its enums for the answers of Forms, and the parts that it makes them of.
+use Prim.Native.Nat.{ℕ, _+_, _-_, _%_}
 use mathlib.Core.List.{List}
 use lib.ListN.{length}
 use Rattle.le.specs.Number.{number}
-use Rattle.chunk.specs.declared.TrueSize.{TrueSize}
+use Rattle.le.specs.Choice.{pick}
 use Rattle.chunk.specs.Refusals.{Answer, refused, given, andThen}
 use Rattle.chunk.specs.Tables.{LIMIT}
-use Rattle.chunk.specs.Contracts.{Due}
-use Rattle.le.specs.Choice.{pick}
 use Rattle.form.specs.declared.Form.{Form}
 use Rattle.form.specs.declared.Head.{Head}
 use Rattle.form.specs.declared.Opened.{Opened}
 use Rattle.form.specs.declared.Opened.the-variants as opened
-use Rattle.form.specs.declared.Size.{Size}
-use Rattle.form.specs.declared.Size.the-variants as size
 use Rattle.form.specs.declared.Start.{Start}
-use Rattle.form.specs.declared.opening.Parsing.{Parsing}
-use Rattle.form.specs.declared.opening.Parsing.the-variants as parsing
-use Rattle.form.specs.Forms.{isWide, ds64Good, ds64At, headAs, wholeAs, ENTRIES, LEAST, ENTRY}
-use Rattle.form.specs.Sizes.{entriesOf, onesSize}
-
-unfoldable pub sizeAs : Answer TrueSize → Size
-sizeAs (refused r) = size.Unknown
-sizeAs (given t) = size.Known t
+use Rattle.form.specs.declared.Parsing.{Parsing}
+use Rattle.form.specs.declared.Parsing.the-variants as parsing
+use Rattle.form.specs.Forms.{isWide, ds64Good, ds64At, headAs, wholeAs}
 
 -- the place of the chunk past a first chunk of a size
 abbrev pub second : ℕ → ℕ
@@ -54,23 +43,3 @@ openedAs s (given h) = opened.Start (record { head = h; place = placeOf (h .form
 unfoldable pub headThen : Form → List ℕ → Answer Head
 unfolding andThen
 headThen f s = andThen (headAs f s) λ h. wholeAs h s
-
--- a 64-bit form's entries lie in the file, and are no more than a ds64 may have
-pub record EntriesFit (h : Head) (s : List ℕ) : Type 0 where
-  pub inside : isWide (h .form) ≡ true → 20 + LEAST + ENTRY * h .ds64 .count ≤ length s
-  pub few : isWide (h .form) ≡ true → h .ds64 .count ≤ ENTRIES
-
--- a header past ds64 stands ahead of a place
-pub record Past (h : Head) (s : List ℕ) (place : ℕ) : Type 0 where
-  pub fit : EntriesFit h s
-  pub due : Due s place
-  pub later : isWide (h .form) ≡ true → 20 < place
-
--- ds64 gives a chunk of this name, whose field is all ones, its size
-pub record Knows (h : Head) (s : List ℕ) (name : ℕ) : Type 0 where
-  pub fit : EntriesFit h s
-  pub size : TrueSize
-  pub is : onesSize (h .form) (h .ds64) (entriesOf h s) name ≡ given size
-
-pub record IsKnown (h : Head) (s : List ℕ) (name : ℕ) (size : TrueSize) : Type 0 where
-  pub is : onesSize (h .form) (h .ds64) (entriesOf h s) name ≡ given size

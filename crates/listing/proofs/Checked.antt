@@ -19,8 +19,8 @@ use Rattle.chunk.proofs.Checks.{given-inj, refused-given, check-given, check-tr
 use Rattle.chunk.proofs.Laid.{Laid, walk-laid, laid-walk}
 use Rattle.form.specs.declared.Head.{Head}
 use Rattle.form.specs.Forms.{headOf}
-use Rattle.form.specs.Sizes.{trueSize, entriesOf}
 use Rattle.form.proofs.Heads.{Opened, head-opened, opened-head}
+use Rattle.truesize.specs.Sizes.{trueSize, entriesOf}
 use Rattle.listing.specs.Listings.{endedAs, chunksGood, Listing, headers, listing}
 
 -- ---- check 10

@@ -27,11 +27,11 @@ use Rattle.chunk.proofs.Laid.{Row, step-row, step-end, walk-chunk, walk-stop, w
 use Rattle.form.specs.declared.Head.{Head}
 use Rattle.form.specs.declared.Start.{Start}
 use Rattle.form.specs.Forms.{isWide, headOf}
-use Rattle.form.specs.Sizes.{entriesOf}
 use Rattle.form.specs.Contracts.{placeOf, roomOf, second}
 use Rattle.form.proofs.Heads.{head-opened, wide-head, Ds64Rules, ds64-rules}
-use Rattle.form.proofs.Sizes.{true-ds64}
 use Rattle.form.proofs.Opens.{Starts}
+use Rattle.truesize.specs.Sizes.{entriesOf}
+use Rattle.truesize.proofs.Sizes.{true-ds64}
 use Rattle.listing.specs.declared.tally.Tally.{Tally}
 use Rattle.listing.specs.declared.Fact.the-variants as fact
 use Rattle.listing.specs.declared.headers.Noted.{Noted}

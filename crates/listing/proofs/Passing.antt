@@ -33,9 +33,10 @@ use Rattle.chunk.proofs.Turns.{placed-whole, turn, turn-due, walk-full}
 use Rattle.form.specs.declared.Head.{Head}
 use Rattle.form.specs.declared.Start.{Start}
 use Rattle.form.specs.Forms.{isWide, ds64At}
-use Rattle.form.specs.Contracts.{Past, placeOf, roomOf, second}
+use Rattle.form.specs.Contracts.{placeOf, roomOf, second}
 use Rattle.form.proofs.Heads.{head-opened, wide-head, ds64-rules}
-use Rattle.form.proofs.Sizes.{true-own}
+use Rattle.truesize.specs.Contracts.{Past}
+use Rattle.truesize.proofs.Sizes.{true-own}
 use Rattle.listing.specs.declared.Payload.{Payload}
 use Rattle.listing.specs.declared.tally.Tally.{Tally}
 use Rattle.listing.specs.declared.headers.Passed.{Passed}

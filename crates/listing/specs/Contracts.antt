@@ -22,8 +22,8 @@ use Rattle.chunk.specs.Contracts.{headerOf, Due}
 use Rattle.form.specs.declared.Head.{Head}
 use Rattle.form.specs.declared.Start.{Start}
 use Rattle.form.specs.Forms.{headOf}
-use Rattle.form.specs.Sizes.{trueSize, entriesOf}
 use Rattle.form.specs.Contracts.{placeOf, roomOf}
+use Rattle.truesize.specs.Sizes.{trueSize, entriesOf}
 use Rattle.listing.specs.declared.Payload.{Payload}
 use Rattle.listing.specs.declared.tally.Tally.{Tally}
 use Rattle.listing.specs.declared.Fact.{Fact}

@@ -14,7 +14,7 @@ use Rattle.chunk.specs.Tables.{count, find, LIMIT}
 use Rattle.chunk.specs.Walks.{Walked, walk}
 use Rattle.form.specs.declared.Head.{Head}
 use Rattle.form.specs.Forms.{headOf}
-use Rattle.form.specs.Sizes.{trueSize, entriesOf}
+use Rattle.truesize.specs.Sizes.{trueSize, entriesOf}
 
 -- the rows of a walk that came to the end, or the refusal it stopped with
 unfoldable pub endedAs : Verdict → List Entry → Answer (List Entry)

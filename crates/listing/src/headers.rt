@@ -99,7 +99,7 @@ pub fn walk(file: &[u8], o: Start) -> Tallied
     let near = near_end(file.len() as u64, place);
     loop {
         let h = chunk::steps::header(file, place);
-        let found = form::truesize::step(file, head, place, h);
+        let found = truesize::step(file, head, place, h);
         let Step::Chunk(entry, next) = found else {
             let count = Table::LIMIT as u64 - room;
             return last(

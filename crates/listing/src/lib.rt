@@ -88,7 +88,7 @@ fn bare(len: u64, end: u64) -> Refusal
 pub fn list(file: &[u8]) -> Listed
     ensures { λ r. ⌜ r ≡ listedAs (now (file .entry)) (listing (now (file .entry))) ⌝ }
 {
-    match form::opening::open(file) {
+    match form::open(file) {
         Opened::Refused(r) => Listed::Refused(r),
         Opened::Start(o) => {
             let len = file.len() as u64;

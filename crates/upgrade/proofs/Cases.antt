@@ -7,7 +7,7 @@ use Rattle.chunk.specs.Refusals.{check, andThen}
 use Rattle.chunk.specs.Tables.{count, find}
 use Rattle.chunk.specs.Walks.{past, placed, sized, step, stepAt, follow, walk, ownSize}
 use Rattle.form.specs.Forms.{isWide, formOf, ds64Good, ds64At, noDs64, wideAs, headAs, formSize, wholeForm, wholeAs, headOf, openFor32}
-use Rattle.form.specs.Sizes.{entriesIn, entriesOf, entrySize, onesSize, trueSize}
+use Rattle.truesize.specs.Sizes.{entriesIn, entriesOf, entrySize, onesSize, trueSize}
 use Rattle.fmt.specs.Formats.{sizeGood, bitsGood, samplesGood, validGood, recordGood, extraGood, recordIn, formatIn}
 use Rattle.listing.specs.Listings.{endedAs, chunksGood, headers, listing}
 use Rattle.wave.specs.Scans.{payload, wholeBlocks, judged, scan, walkFrom, walk32}

@@ -28,8 +28,8 @@ use Rattle.form.specs.declared.Form.{Form}
 use Rattle.form.specs.declared.Form.the-variants.{Riff}
 use Rattle.form.specs.Forms.{isWide, formSize, LEAST}
 use Rattle.form.specs.Contracts.{placeOf}
-use Rattle.form.specs.Sizes.{trueSize, entriesOf}
-use Rattle.form.proofs.Sizes.{own-true, riff-own}
+use Rattle.truesize.specs.Sizes.{trueSize, entriesOf}
+use Rattle.truesize.proofs.Sizes.{own-true, riff-own}
 use Rattle.fmt.specs.declared.Format.{Format}
 use Rattle.fmt.specs.Formats.{formatIn}
 use Rattle.fmt.proofs.Laws.{block-least}

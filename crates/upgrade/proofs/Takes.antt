@@ -26,9 +26,9 @@ use Rattle.form.specs.declared.Form.{Form}
 use Rattle.form.specs.declared.Form.the-variants.{Riff}
 use Rattle.form.specs.declared.Head.{Head}
 use Rattle.form.specs.Forms.{headAs, formSize, LEAST}
-use Rattle.form.specs.Sizes.{trueSize, entriesOf}
 use Rattle.form.proofs.Heads.{riff-head, form-own}
-use Rattle.form.proofs.Sizes.{own-true, ds64-first, riff-own}
+use Rattle.truesize.specs.Sizes.{trueSize, entriesOf}
+use Rattle.truesize.proofs.Sizes.{own-true, ds64-first, riff-own}
 use Rattle.fmt.specs.declared.Format.{Format}
 use Rattle.wave.specs.Scans.{Scan}
 use Rattle.listing.proofs.Checked.{Checked}

@@ -25,9 +25,9 @@ use Rattle.chunk.proofs.Finds.{only}
 use Rattle.form.specs.declared.Form.{Form}
 use Rattle.form.specs.declared.Head.{Head}
 use Rattle.form.specs.Forms.{ds64At, formSize}
-use Rattle.form.specs.Sizes.{trueSize, entriesOf}
 use Rattle.form.proofs.Heads.{Opened, head-wide, rules-ds64, form-ones}
-use Rattle.form.proofs.Sizes.{true-own, true-ds64, true-data, own-true, riff-own}
+use Rattle.truesize.specs.Sizes.{trueSize, entriesOf}
+use Rattle.truesize.proofs.Sizes.{true-own, true-ds64, true-data, own-true, riff-own}
 use Rattle.fmt.specs.declared.Format.{Format}
 use Rattle.wave.specs.Scans.{Scan, scan, payload, judged, factCount, samplesIn, samplesOf, walk32}
 use Rattle.wave.specs.declared.Samples.the-variants as samples

@@ -25,9 +25,9 @@ use Rattle.form.specs.declared.Form.the-variants.{Riff, Rf64, Bw64}
 use Rattle.form.specs.declared.Ds64.{Ds64}
 use Rattle.form.specs.declared.Head.{Head}
 use Rattle.form.specs.Forms.{isWide, ds64At, noDs64, headAs, formSize, LEAST}
-use Rattle.form.specs.Sizes.{Ds64Entry, entriesIn, entriesOf, trueSize}
 use Rattle.form.proofs.Heads.{Opened, Ds64Rules, ds64-rules, riff-head, wide-head, form-own, form-ones}
-use Rattle.form.proofs.Sizes.{own-true, ds64-first}
+use Rattle.truesize.specs.Sizes.{Ds64Entry, entriesIn, entriesOf, trueSize}
+use Rattle.truesize.proofs.Sizes.{own-true, ds64-first}
 use Rattle.fmt.specs.declared.Format.{Format}
 use Rattle.fmt.specs.Formats.{formatIn}
 use Rattle.wave.specs.Scans.{payload, wholeBlocks, judged, Scan}

@@ -26,9 +26,9 @@ use Rattle.form.specs.declared.Form.the-variants.{Riff, Rf64, Bw64}
 use Rattle.form.specs.declared.Ds64.{Ds64}
 use Rattle.form.specs.declared.Head.{Head}
 use Rattle.form.specs.Forms.{isWide, ds64At}
-use Rattle.form.specs.Sizes.{Ds64Entry, entriesIn, entrySize, knownSize, onesSize, strayDs64, trueSize}
-use Rattle.form.proofs.Ds64Entries.{true-stray, true-field, true-ones}
-use Rattle.form.proofs.Sizes.{own-true}
+use Rattle.truesize.specs.Sizes.{Ds64Entry, entriesIn, entrySize, knownSize, onesSize, strayDs64, trueSize}
+use Rattle.truesize.proofs.Ds64Entries.{true-stray, true-field, true-ones}
+use Rattle.truesize.proofs.Sizes.{own-true}
 use Rattle.wave.specs.Grammar.{Chunk, GoodChunk, FirstEntry, entriesBytes, ds64Bytes}
 
 -- ---- the rule's answer where it knows a size

@@ -24,8 +24,8 @@ use Rattle.chunk.proofs.Checks.{pick-true, pick-false, check-given}
 use Rattle.chunk.proofs.Laid.{laid-walk}
 use Rattle.form.specs.declared.Head.{Head}
 use Rattle.form.specs.Forms.{ds64At, wholeForm, openFor32, ENTRIES, LEAST, ENTRY}
-use Rattle.form.specs.Contracts.{EntriesFit}
 use Rattle.form.proofs.Heads.{Opened, wide-head, ds64-rules}
+use Rattle.truesize.specs.Contracts.{EntriesFit}
 use Rattle.listing.specs.Listings.{headers}
 use Rattle.wave.specs.Scans.{Scan, scan, rowsOf, walkFrom, walk32}
 use Rattle.wave.specs.Words.{scanTable, ScanDone, walkTable, WalkDone}

@@ -20,9 +20,9 @@ use Rattle.chunk.specs.Fields.{ONES}
 use Rattle.chunk.specs.Walks.{Rule, past, Walked, walk, ownSize}
 use Rattle.chunk.proofs.Checks.{pick-true, pick-false}
 use Rattle.chunk.proofs.Laid.{Row, Laid, done, next, row-fits, step-end, step-row, step-refused, walk-stop, walk-chunk, own-ones, own-given}
-use Rattle.form.specs.Sizes.{trueSize, entriesOf}
 use Rattle.form.proofs.Heads.{opened-32}
-use Rattle.form.proofs.Sizes.{own-true}
+use Rattle.truesize.specs.Sizes.{trueSize, entriesOf}
+use Rattle.truesize.proofs.Sizes.{own-true}
 use Rattle.chunk.specs.Tables.{LIMIT}
 use Rattle.wave.specs.Scans.{Scan, scan, walkFrom, walk32}
 use Rattle.wave.specs.Tables.{ownField}

@@ -26,9 +26,9 @@ use Rattle.form.specs.declared.Form.{Form}
 use Rattle.form.specs.declared.Form.the-variants.{Riff, Rf64, Bw64}
 use Rattle.form.specs.declared.Ds64.{Ds64}
 use Rattle.form.specs.Forms.{nameOf, isWide, ds64Good, ds64At, noDs64, headAs, wideAs, formSize}
-use Rattle.form.specs.Sizes.{Ds64Entry, entriesIn, entriesOf, strayDs64, trueSize}
 use Rattle.form.proofs.Heads.{Opened, rules-ds64, head-wide, form-own, form-ones}
-use Rattle.form.proofs.Sizes.{other-placed, first-placed}
+use Rattle.truesize.specs.Sizes.{Ds64Entry, entriesIn, entriesOf, strayDs64, trueSize}
+use Rattle.truesize.proofs.Sizes.{other-placed, first-placed}
 use Rattle.fmt.specs.declared.Format.{Format}
 use Rattle.fmt.specs.Formats.{formatIn}
 use Rattle.wave.specs.Scans.{payload, wholeBlocks, judged, Scan, scan}

@@ -35,8 +35,8 @@ use Rattle.form.specs.declared.Form.{Form}
 use Rattle.form.specs.declared.Form.the-variants.{Riff, Rf64, Bw64}
 use Rattle.form.specs.declared.Head.{Head}
 use Rattle.form.specs.Forms.{isWide}
-use Rattle.form.specs.Sizes.{trueSize, onesSize, strayDs64, entriesOf}
-use Rattle.form.proofs.Sizes.{own-true, riff-own}
+use Rattle.truesize.specs.Sizes.{trueSize, onesSize, strayDs64, entriesOf}
+use Rattle.truesize.proofs.Sizes.{own-true, riff-own}
 use Rattle.listing.specs.Listings.{headers}
 use Rattle.listing.specs.Contracts.{rule}
 use Rattle.wave.specs.Contracts.{rowsFrom, WalkStored, Finishes, Rowed, WideRows, Fills}

@@ -10,9 +10,9 @@ use Rattle.chunk.specs.declared.Entry.{Entry}
 use Rattle.chunk.specs.Refusals.{given}
 use Rattle.chunk.specs.Walks.{Rule, past}
 use Rattle.chunk.proofs.Laid.{Row, Laid, done, next, laid-lies}
-use Rattle.form.specs.Sizes.{trueSize, entriesOf}
 use Rattle.form.proofs.Heads.{wide-head, ds64-rules}
-use Rattle.form.proofs.Sizes.{own-true, ds64-first}
+use Rattle.truesize.specs.Sizes.{trueSize, entriesOf}
+use Rattle.truesize.proofs.Sizes.{own-true, ds64-first}
 use Rattle.wave.specs.Scans.{Scan, scan}
 use Rattle.wave.specs.Tables.{ownField, EndToEnd, GoodTable}
 use Rattle.wave.proofs.Scanned.{scan-scanned}

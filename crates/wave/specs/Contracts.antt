@@ -14,7 +14,8 @@ use Rattle.chunk.specs.Tables.{find, rowWords, tabled, LIMIT, WORDS}
 use Rattle.chunk.specs.Walks.{Rule, Walked, walk}
 use Rattle.chunk.specs.Contracts.{headerOf}
 use Rattle.form.specs.declared.Head.{Head}
-use Rattle.form.specs.Contracts.{EntriesFit, placeOf}
+use Rattle.form.specs.Contracts.{placeOf}
+use Rattle.truesize.specs.Contracts.{EntriesFit}
 use Rattle.fmt.specs.declared.Format.{Format}
 use Rattle.wave.specs.declared.Samples.{Samples}
 use Rattle.wave.specs.declared.Samples.the-variants as samples

@@ -15,7 +15,7 @@ use Rattle.chunk.specs.Tables.{count, find, LIMIT}
 use Rattle.form.specs.declared.Form.{Form}
 use Rattle.form.specs.declared.Ds64.{Ds64}
 use Rattle.form.specs.Forms.{nameOf, isWide, noDs64, ENTRIES}
-use Rattle.form.specs.Sizes.{Ds64Entry}
+use Rattle.truesize.specs.Sizes.{Ds64Entry}
 use Rattle.fmt.specs.Formats.{formatIn}
 use Rattle.wave.specs.Scans.{Scan, scan}
 

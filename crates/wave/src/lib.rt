@@ -76,7 +76,7 @@ pub fn walk32_into(file: &[u8], words: &mut [u64]) -> Verdict
     if words.len() < Table::WORDS {
         return Verdict::Refused(Refusal::ShortOutput);
     }
-    match form::opening::open32(file) {
+    match form::open32(file) {
         Verdict::Refused(r) => {
             words[0] = 0;
             Verdict::Refused(r)

@@ -106,7 +106,7 @@ fn fill_wide(file: &[u8], head: Head, stop: usize, words: &mut [u64])
         let h = chunk::steps::header(file, place);
         let mut size = TrueSize { bytes: h.field };
         if h.field == chunk::ONES {
-            size = form::truesize::known(file, head, h.name);
+            size = truesize::known(file, head, h.name);
         }
         chunk::put_row(words, row, chunk::steps::entry(place, h.name, size));
         place = chunk::steps::past(place, size.bytes);
@@ -121,7 +121,7 @@ pub fn fill(file: &[u8], head: Head, count: u64, words: &mut [u64])
 {
     let stop = 1 + 4 * count as usize;
     let form = head.form;
-    if form::truesize::is_wide(form) {
+    if form::is_wide(form) {
         fill_wide(file, head, stop, words);
     } else {
         fill_own(file, stop, words);

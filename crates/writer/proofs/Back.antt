@@ -24,9 +24,9 @@ use Rattle.form.specs.declared.Form.{Form}
 use Rattle.form.specs.declared.Form.the-variants.{Riff}
 use Rattle.form.specs.declared.Head.{Head}
 use Rattle.form.specs.Forms.{LEAST, isWide}
-use Rattle.form.specs.Sizes.{trueSize, entriesOf}
 use Rattle.form.proofs.Heads.{Opened, opened-32}
-use Rattle.form.proofs.Sizes.{true-own}
+use Rattle.truesize.specs.Sizes.{trueSize, entriesOf}
+use Rattle.truesize.proofs.Sizes.{true-own}
 use Rattle.fmt.specs.declared.Format.{Format}
 use Rattle.fmt.specs.Formats.{formatIn}
 use Rattle.fmt.specs.Writing.{formatBytes}

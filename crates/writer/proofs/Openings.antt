@@ -18,10 +18,10 @@ use Rattle.form.specs.declared.Form.{Form}
 use Rattle.form.specs.declared.Form.the-variants.{Riff, Rf64, Bw64}
 use Rattle.form.specs.declared.Head.{Head}
 use Rattle.form.specs.Forms.{LEAST, nameOf, isWide, ds64At, noDs64, formSize}
-use Rattle.form.specs.Sizes.{Ds64Entry, trueSize}
 use Rattle.form.proofs.Heads.{Opened, rules-ds64, head-wide, form-own, form-ones}
 use Rattle.form.proofs.Opens.{riff-finished}
-use Rattle.form.proofs.Sizes.{true-own, true-ds64, true-data}
+use Rattle.truesize.specs.Sizes.{Ds64Entry, trueSize}
+use Rattle.truesize.proofs.Sizes.{true-own, true-ds64, true-data}
 use Rattle.writer.specs.Files.{chunkWith, chunkBytes, firstChunk, ownField, openingBytes, chunkSize}
 use Rattle.writer.specs.WayBack.{firstName}
 use Rattle.writer.proofs.Sizes.{opening-length}

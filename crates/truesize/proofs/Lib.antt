@@ -1,0 +1,2 @@
+pub mod Ds64Entries
+pub mod Sizes
