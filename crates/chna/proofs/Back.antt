@@ -1,144 +1,27 @@
 -- A good record is read back from its own bytes: entry by entry, and then whole.
 -- Assumes nothing.
-use mathlib.Core.Path.{_≡_, refl, sym, ap, ap₂, _∙_}
-use mathlib.Core.Bool.{true≢false, Bool, true, false, _||_}
+use mathlib.Core.Path.{_≡_, refl, ap, ap₂, _∙_}
+use mathlib.Core.Bool.{Bool, true, false}
 use mathlib.Core.List.{List, [], _∷_, _++_, append-assoc}
 use Prim.Native.Nat.{ℕ, suc, _+_, _*_, _/_, _≤_, _<_}
 use native.Mathlib.Omega.{arith}
-use lib.ListN.{length, take, drop, length-append}
+use lib.ListN.{length, drop, length-append}
 use lib.Seq.{take-at, drop-at}
-use lib.Dec.{eqb, leb, ltb}
-use borrow.Author.Tests.{leb-true, ltb-true, eqb-true}
-use Rattle.le.specs.Number.{value, bytes, field, number}
+use lib.Dec.{eqb, leb}
+use borrow.Author.Tests.{leb-true, eqb-true}
+use Rattle.le.specs.Number.{bytes, number}
 use Rattle.le.specs.Choice.{pick, every}
 use Rattle.le.proofs.Laws.{bytes-length}
-use Rattle.chna.specs.Ids.{fitsOne, fits, codes, UNUSED, UID, TRACK, CHANNEL, PACK, NOPACK}
-use Rattle.chna.specs.Records.{Used, Entry, unused, used, usedIn, entryIn, usedGood, entryGood, entriesAt, entriesIn, entriesGood, indices, occurs, different, Whole, wholeOf, wholeIn, wholeGood, lengthGood, entryBytes, entriesBytes, payloadOf}
-use Rattle.chna.proofs.Patterns.{both, both-first, both-second}
+use Rattle.chna_entry.specs.Ids.{fitsOne, fits}
+use Rattle.chna_entry.specs.Entries.{Entry, unused, used, usedIn, entryIn, entryGood}
+use Rattle.chna.specs.Records.{entriesAt, entriesIn, entriesGood, indices, occurs, different, Whole, wholeOf, wholeIn, wholeGood, lengthGood, entryBytes, entriesBytes, payloadOf}
+use Rattle.chna_entry.proofs.Patterns.{both-first, both-second}
+use Rattle.chna_entry.proofs.Entries.{good-used}
+use Rattle.chna_entry.proofs.Parts.{number-mid, number-first, laid-out, used-length, used-back, not-zeros}
 use Rattle.chna.proofs.Answers.{length-good}
-use Rattle.chna.proofs.Payloads.{zeros-only, four-bytes}
-
--- ---- what a pattern tells of a length
-
-fits-length : (ps l : List ℕ) → fits ps l ≡ true → length l ≡ length ps
-unfolding fits pick
-fits-length [] [] e = refl
-fits-length [] (b ∷ l) e = absurd (true≢false (sym e))
-fits-length (p ∷ ps) [] e = absurd (true≢false (sym e))
-fits-length (p ∷ ps) (b ∷ l) e = ap suc (fits-length ps l (both-second (fitsOne p b) (fits ps l) e))
-
-either-length : (ps qs l : List ℕ) → length ps ≡ length qs → (fits ps l || fits qs l) ≡ true → length l ≡ length ps
-either-length ps qs l n e = by (fits ps l) refl e where
-  by : (b : Bool) → fits ps l ≡ b → (b || fits qs l) ≡ true → length l ≡ length ps
-  by true f g = fits-length ps l f
-  by false f g = fits-length qs l g ∙ sym n
-
--- ---- what the rules of a used entry tell
-
-record Good (channels : ℕ) (u : Used) : Type 0 where
-  low : 1 ≤ u .index
-  high : u .index ≤ channels
-  narrow : u .index < 65536
-  uid : length (u .uid) ≡ 12
-  track : length (u .track) ≡ 14
-  pack : length (u .pack) ≡ 11
-
-good-used : (channels : ℕ) (u : Used) → usedGood channels u ≡ true → Good channels u
-unfolding usedGood every codes
-good-used channels u e =
-    let t : Bool = fits TRACK (u .track) || fits CHANNEL (u .track) in
-    let k : Bool = fits PACK (u .pack) || fits NOPACK (u .pack) in
-    let e₁ = both-second (leb 1 (u .index)) _ e in
-    let e₂ = both-second (leb (u .index) channels) _ e₁ in
-    let e₃ = both-second (ltb (u .index) 65536) _ e₂ in
-    let e₄ = both-second (fits UID (u .uid)) _ e₃ in
-    let e₅ = both-second t (both k true) e₄ in
-    record {
-      low = leb-true 1 (u .index) (both-first (leb 1 (u .index)) _ e);
-      high = leb-true (u .index) channels (both-first (leb (u .index) channels) _ e₁);
-      narrow = ltb-true (u .index) 65536 (both-first (ltb (u .index) 65536) _ e₂);
-      uid = fits-length UID (u .uid) (both-first (fits UID (u .uid)) _ e₃);
-      track = either-length TRACK CHANNEL (u .track) refl (both-first t (both k true) e₄);
-      pack = either-length PACK NOPACK (u .pack) refl (both-first k true e₅);
-    }
+use Rattle.chna.proofs.Payloads.{four-bytes}
 
 -- ---- one entry
-
--- a field that stands behind so many bytes
-field-mid : (a m z : List ℕ) (at n : ℕ) → length a ≡ at → length m ≡ n → field n at (a ++ m ++ z) ≡ m
-unfolding field
-field-mid a m z at n h k =
-    ap (take n) (ap (drop at) (append-assoc a m z) ∙ drop-at a (m ++ z) at h) ∙ take-at m z n k
-
-value-two : (v : ℕ) → v < 65536 → value (bytes 2 v) ≡ v
-unfolding value bytes
-value-two v h = omega arith
-
--- two bytes of a number are read back behind so many others
-number-mid : (a z : List ℕ) (at v : ℕ) → length a ≡ at → v < 65536 → number 2 at (a ++ bytes 2 v ++ z) ≡ v
-unfolding number
-number-mid a z at v h k = ap value (field-mid a (bytes 2 v) z at 2 h (bytes-length 2 v)) ∙ value-two v k
-
-number-first : (z : List ℕ) (v : ℕ) → v < 65536 → number 2 0 (bytes 2 v ++ z) ≡ v
-number-first z v k = number-mid [] z 0 v refl k
-
-abbrev made : ℕ → List ℕ → List ℕ → List ℕ → Used
-made i x y z = record { index = i; uid = x; track = y; pack = z }
-
--- the bytes of a used entry
-abbrev laid-out : Used → List ℕ
-laid-out u = bytes 2 (u .index) ++ u .uid ++ u .track ++ u .pack ++ (0 ∷ [])
-
-module _ (channels : ℕ) (u : Used) (g : Good channels u) where
-  used-length : length (laid-out u) ≡ 40
-  used-length =
-      omega (
-        arith,
-        length-append (bytes 2 (u .index) ++ u .uid ++ u .track ++ u .pack) (0 ∷ []),
-        length-append (bytes 2 (u .index) ++ u .uid ++ u .track) (u .pack),
-        length-append (bytes 2 (u .index) ++ u .uid) (u .track),
-        length-append (bytes 2 (u .index)) (u .uid),
-        bytes-length 2 (u .index),
-        g .uid,
-        g .track,
-        g .pack,
-      )
-
-  -- the same bytes with more and more of them behind
-  from-pack : laid-out u ≡ bytes 2 (u .index) ++ u .uid ++ u .track ++ (u .pack ++ (0 ∷ []))
-  from-pack = append-assoc (bytes 2 (u .index) ++ u .uid ++ u .track) (u .pack) (0 ∷ [])
-
-  from-track : laid-out u ≡ bytes 2 (u .index) ++ u .uid ++ (u .track ++ (u .pack ++ (0 ∷ [])))
-  from-track = from-pack ∙ append-assoc (bytes 2 (u .index) ++ u .uid) (u .track) (u .pack ++ (0 ∷ []))
-
-  index-back : number 2 0 (laid-out u) ≡ u .index
-  index-back =
-      ap (number 2 0) (from-track ∙ append-assoc (bytes 2 (u .index)) (u .uid) (u .track ++ (u .pack ++ (0 ∷ []))))
-      ∙ number-first (u .uid ++ (u .track ++ (u .pack ++ (0 ∷ [])))) (u .index) (g .narrow)
-
-  used-back : usedIn (laid-out u) ≡ u
-  unfolding usedIn
-  used-back =
-      let two : length (bytes 2 (u .index)) ≡ 2 = bytes-length 2 (u .index) in
-      let uids : length (bytes 2 (u .index) ++ u .uid) ≡ 14 =
-      omega (arith, length-append (bytes 2 (u .index)) (u .uid), two, g .uid) in
-      let tracks : length (bytes 2 (u .index) ++ u .uid ++ u .track) ≡ 28 =
-      omega (arith, length-append (bytes 2 (u .index) ++ u .uid) (u .track), uids, g .track) in
-      ap₂ (λ (i : ℕ) (x : List ℕ). made i x (field 14 14 (laid-out u)) (field 11 28 (laid-out u)))
-      index-back
-      (ap (field 12 2) from-track ∙ field-mid (bytes 2 (u .index)) (u .uid) (u .track ++ (u .pack ++ (0 ∷ []))) 2 12 two (g .uid))
-      ∙ ap₂ (λ (x y : List ℕ). made (u .index) (u .uid) x y)
-      (ap (field 14 14) from-pack ∙ field-mid (bytes 2 (u .index) ++ u .uid) (u .track) (u .pack ++ (0 ∷ [])) 14 14 uids (g .track))
-      (field-mid (bytes 2 (u .index) ++ u .uid ++ u .track) (u .pack) (0 ∷ []) 28 11 tracks (g .pack))
-
-  not-zeros : fits UNUSED (laid-out u) ≡ false
-  unfolding number field value
-  not-zeros = by (fits UNUSED (laid-out u)) refl where
-    by : (b : Bool) → fits UNUSED (laid-out u) ≡ b → b ≡ false
-    by true f =
-        let zero-index : u .index ≡ 0 = sym index-back ∙ ap (number 2 0) (zeros-only 40 (laid-out u) f) in
-        absurd (omega (arith, g .low))
-    by false f = refl
 
 pub entry-length : (channels : ℕ) (e : Entry) → entryGood channels e ≡ true → length (entryBytes e) ≡ 40
 unfolding entryGood entryBytes

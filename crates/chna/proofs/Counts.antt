@@ -14,9 +14,10 @@ use lib.Bits.{bitOr}
 use borrow.Author.Tests.{le-leb, lt-leb}
 use Rattle.le.specs.Number.{field, number}
 use Rattle.le.specs.Choice.{pick, every}
-use Rattle.chna.specs.Ids.{fits, UNUSED}
-use Rattle.chna.specs.Records.{Entry, unused, used, usedIn, entryIn, usedGood, entryGood, entriesAt, entriesIn, entriesGood, indices, occurs, different, wholeOf, wholeGood}
-use Rattle.chna.proofs.Patterns.{both, holds, fails, itself}
+use Rattle.chna_entry.specs.Ids.{fits, UNUSED}
+use Rattle.chna_entry.specs.Entries.{Entry, unused, used, usedIn, entryIn, usedGood, entryGood}
+use Rattle.chna.specs.Records.{entriesAt, entriesIn, entriesGood, indices, occurs, different, wholeOf, wholeGood}
+use Rattle.chna_entry.proofs.Patterns.{both, holds, fails, itself}
 use Rattle.chna.proofs.Marks.{bit, marked, bit-marked, bit-none}
 
 -- an entry's bytes, as the code lends them

@@ -9,8 +9,9 @@ use Rattle.le.specs.Number.{bytes, field, number, value}
 use Rattle.chunk.specs.Refusals.{check}
 use Rattle.chna.specs.declared.Reading.{Reading}
 use Rattle.chna.specs.declared.Reading.the-variants as reading
-use Rattle.chna.specs.Ids.{isHex, fitsOne, fits, codes}
-use Rattle.chna.specs.Records.{usedIn, entryIn, usedGood, entryGood, entriesAt, entriesIn, entriesGood, indices, occurs, different, wholeOf, wholeIn, wholeGood, lengthGood, chnaIn, numbersOf, readAs}
+use Rattle.chna_entry.specs.Ids.{isHex, fitsOne, fits, codes}
+use Rattle.chna_entry.specs.Entries.{usedIn, entryIn, usedGood, entryGood}
+use Rattle.chna.specs.Records.{entriesAt, entriesIn, entriesGood, indices, occurs, different, wholeOf, wholeIn, wholeGood, lengthGood, chnaIn, numbersOf, readAs}
 
 -- one ID structure
 abbrev id : ℕ → String → String → String → List ℕ

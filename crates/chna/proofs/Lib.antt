@@ -1,5 +1,3 @@
-pub mod Patterns
-pub mod Entries
 pub mod Marks
 pub mod Counts
 pub mod Answers

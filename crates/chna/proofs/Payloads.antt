@@ -1,43 +1,22 @@
 -- The bytes of a record that was read from bytes are those bytes, but for the pads.
 -- Assumes nothing.
 use mathlib.Core.Path.{_≡_, refl, sym, ap, ap₂, _∙_}
-use mathlib.Core.Bool.{true≢false, Bool, true, false}
+use mathlib.Core.Bool.{Bool, true, false}
 use mathlib.Core.List.{List, [], _∷_, _++_}
 use Prim.Native.Nat.{ℕ, zero, suc, _*_, _/_, _%_, _≤_}
 use native.Mathlib.Omega.{arith}
-use lib.ListN.{length, set, take, drop, replicate, length-drop, drop-of-length-le}
-use lib.Seq.{set-split, take-add, length-take-le}
-use lib.Dec.{eqb}
-use borrow.Author.Tests.{eqb-true}
+use lib.ListN.{length, set, take, drop, length-drop}
+use lib.Seq.{length-take-le}
 use Rattle.le.specs.Number.{Bytes, bytes, field, stored}
 use Rattle.le.specs.Choice.{pick}
 use Rattle.le.proofs.Laws.{Bytes-drop, bytes-number}
-use Rattle.chna.specs.Ids.{fitsOne, fits, UNUSED}
-use Rattle.chna.specs.Records.{unused, used, usedIn, entryIn, entryBytes, entriesAt, entriesIn, entriesBytes, wholeOf, payloadOf, padsAt, padsOff}
-use Rattle.chna.proofs.Patterns.{both-first, both-second, bytes-field}
-
--- zeros are all that fits a pattern of zeros
-pub zeros-only : (n : ℕ) (l : List ℕ) → fits (replicate n 0) l ≡ true → l ≡ replicate n 0
-unfolding fits fitsOne pick
-zeros-only zero [] e = refl
-zeros-only zero (b ∷ l) e = absurd (true≢false (sym e))
-zeros-only (suc n) [] e = absurd (true≢false (sym e))
-zeros-only (suc n) (b ∷ l) e =
-    ap₂ (λ (x : ℕ) (y : List ℕ). x ∷ y)
-    (eqb-true b 0 (both-first (eqb b 0) (fits (replicate n 0) l) e))
-    (zeros-only n l (both-second (eqb b 0) (fits (replicate n 0) l) e))
+use Rattle.chna_entry.specs.Ids.{fits, UNUSED}
+use Rattle.chna_entry.specs.Entries.{unused, used, usedIn, entryIn}
+use Rattle.chna.specs.Records.{entryBytes, entriesAt, entriesIn, entriesBytes, wholeOf, payloadOf, padsAt, padsOff}
+use Rattle.chna_entry.proofs.Patterns.{zeros-only, bytes-field}
+use Rattle.chna_entry.proofs.Parts.{parts}
 
 -- ---- one entry
-
-parts : (e : List ℕ) → length e ≡ 40
-    → field 2 0 e ++ field 12 2 e ++ field 14 14 e ++ field 11 28 e ++ (0 ∷ []) ≡ set e 39 0
-unfolding field
-parts e n =
-    ap (λ (l : List ℕ). l ++ take 14 (drop 14 e) ++ take 11 (drop 28 e) ++ (0 ∷ [])) (sym (take-add 2 12 e))
-    ∙ ap (λ (l : List ℕ). l ++ take 11 (drop 28 e) ++ (0 ∷ [])) (sym (take-add 14 14 e))
-    ∙ ap (λ (l : List ℕ). l ++ (0 ∷ [])) (sym (take-add 28 11 e))
-    ∙ ap (λ (l : List ℕ). take 39 e ++ (0 ∷ l)) (sym (drop-of-length-le e {i = 40} (omega arith)))
-    ∙ sym (set-split e 39 0 (omega arith))
 
 pub entry-bytes : (e : List ℕ) → Bytes e → length e ≡ 40 → entryBytes (entryIn e) ≡ set e 39 0
 unfolding entryBytes entryIn usedIn pick

@@ -13,9 +13,10 @@ use borrow.Author.Tests.{leb-true, eqb-true}
 use Rattle.le.specs.Number.{Bytes, bytes, field, number, value}
 use Rattle.chunk.specs.declared.Refusal.the-variants.{BadChna, BadRecord}
 use Rattle.chunk.specs.Refusals.{refused, given, check}
-use Rattle.chna.specs.Ids.{isHex, fitsOne, fits, codes}
-use Rattle.chna.specs.Records.{entriesIn, entriesAt, entriesGood, entryIn, entryGood, usedIn, usedGood, indices, different, occurs, padsAt, Whole, wholeOf, wholeIn, wholeGood, lengthGood, chnaIn, payloadOf, chnaOut, chnaFrom, padsOff, padsZeroed}
-use Rattle.chna.proofs.Patterns.{first, second}
+use Rattle.chna_entry.specs.Ids.{isHex, fitsOne, fits, codes}
+use Rattle.chna_entry.specs.Entries.{entryIn, entryGood, usedIn, usedGood}
+use Rattle.chna.specs.Records.{entriesIn, entriesAt, entriesGood, indices, different, occurs, padsAt, Whole, wholeOf, wholeIn, wholeGood, lengthGood, chnaIn, payloadOf, chnaOut, chnaFrom, padsOff, padsZeroed}
+use Rattle.chna_entry.proofs.Patterns.{first, second}
 use Rattle.chna.proofs.Answers.{checked, check-given, given-same, good-record, accepted}
 use Rattle.chna.proofs.Back.{payload-length, payload-back, Sound, sound}
 use Rattle.le.proofs.Laws.{Bytes-drop, bytes-number}

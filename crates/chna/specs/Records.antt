@@ -1,65 +1,20 @@
 -- Document 01, "chna" (002 8): the record that a payload holds, or 14; the payload of a record, or 16.
 use Prim.Native.Nat.{ℕ, zero, suc, _-_, _/_, _%_}
 use mathlib.Core.Path.{_≡_}
-use mathlib.Core.Bool.{Bool, true, false, _&&_, _||_}
+use mathlib.Core.Bool.{Bool, true, false, _&&_}
 use mathlib.Core.List.{List, [], _∷_, _++_}
 use lib.ListN.{length, take, drop, set, replicate}
-use lib.Dec.{eqb, leb, ltb}
-use Rattle.le.specs.Number.{bytes, field, number}
+use lib.Dec.{eqb, leb}
+use Rattle.le.specs.Number.{bytes, number}
 use Rattle.le.specs.Choice.{pick, every}
 use Rattle.chunk.specs.declared.Refusal.the-variants.{BadChna, BadRecord}
 use Rattle.chunk.specs.declared.Written.{Written}
 use Rattle.chunk.specs.Refusals.{refusalNumber, Answer, refused, given, check}
 use Rattle.chunk.specs.Writes.{fitting, writtenOf, outputOf}
-use Rattle.chna.specs.Ids.{fits, UNUSED, UID, TRACK, CHANNEL, PACK, NOPACK}
+use Rattle.chna_entry.specs.Entries.{Entry, unused, used, entryIn, entryGood}
 use Rattle.chna.specs.declared.Chna.{Chna}
 use Rattle.chna.specs.declared.Reading.{Reading}
 use Rattle.chna.specs.declared.Reading.the-variants as reading
-
--- ---- an entry
-
--- what a used entry says: its track index, UID, track reference and pack reference
-pub record Used : Type 0 where
-  pub index : ℕ
-  pub uid : List ℕ
-  pub track : List ℕ
-  pub pack : List ℕ
-
-pub data Entry : Type 0 where
-  unused : Entry
-  used : Used → Entry
-
--- "entries of 40 bytes: track index (16 bits), UID 12, track reference 14, pack reference 11, one pad"
-unfoldable pub usedIn : List ℕ → Used
-usedIn e =
-    record {
-      index = number 2 0 e;
-      uid = field 12 2 e;
-      track = field 14 14 e;
-      pack = field 11 28 e;
-    }
-
--- "An unused entry is 40 zero bytes"
-unfoldable pub entryIn : List ℕ → Entry
-unfolding pick
-entryIn e = pick (fits UNUSED e) unused (used (usedIn e))
-
--- "A used one has an index from 1 to the channel count", in its 16 bits, and identifiers of the forms above
-unfoldable pub usedGood : ℕ → Used → Bool
-unfolding every
-usedGood channels u =
-    every
-    (leb 1 (u .index)
-    ∷ leb (u .index) channels
-    ∷ ltb (u .index) 65536
-    ∷ fits UID (u .uid)
-    ∷ (fits TRACK (u .track) || fits CHANNEL (u .track))
-    ∷ (fits PACK (u .pack) || fits NOPACK (u .pack))
-    ∷ [])
-
-unfoldable pub entryGood : ℕ → Entry → Bool
-entryGood channels unused = true
-entryGood channels (used u) = usedGood channels u
 
 -- ---- the entries
 

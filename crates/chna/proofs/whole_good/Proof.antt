@@ -5,13 +5,14 @@ use mathlib.Core.Path.{_≡_, _∙_, sym, subst, ap}
 use Prim.Native.Nat.{ℕ, suc, _+_, _-_, _*_, _/_}
 use native.Mathlib.Omega.{arith}
 use borrow.Author.Tests.{eq-eqb, ne-eqb, not-true, not-false}
-use Rattle.chna.proofs.Patterns.{both, no, yes}
+use Rattle.chna_entry.proofs.Patterns.{both, no, yes}
 use mathlib.Core.List.{List}
 use lib.Dec.{eqb}
 use lib.ListN.{set}
 use Rattle.le.specs.Number.{field, number}
-use Rattle.chna.specs.Ids.{fits, UNUSED}
-use Rattle.chna.specs.Records.{usedIn, usedGood, wholeOf, wholeGood}
+use Rattle.chna_entry.specs.Ids.{fits, UNUSED}
+use Rattle.chna_entry.specs.Entries.{usedIn, usedGood}
+use Rattle.chna.specs.Records.{wholeOf, wholeGood}
 use Rattle.chna.proofs.Marks.{bit, marked}
 use Rattle.chna.proofs.Counts.{lent, Counted, at-end, moved, one-unused, one-used, one-bad, too-many, all-counted}
 use Rattle.chna.proofs.whole_good.Statement.{statement}

@@ -1,5 +1,5 @@
 -- The laws of patterns: a pattern in two parts asks each part of its own bytes, a part with no x is the number of its
--- characters, and each pattern of an entry is thus the tests that the code makes.
+-- characters, and each pattern of an entry is thus the tests that the code makes. Bytes that fit are as many as the pattern has.
 -- Assumes nothing.
 use mathlib.Core.Path.{_≡_, refl, sym, ap, ap₂, _∙_}
 use mathlib.Core.Bool.{true≢false, Bool, true, false, not, _&&_, _||_}
@@ -13,8 +13,8 @@ use borrow.Author.Tests.{eq-eqb, ne-eqb, eqb-true, eqb-false, ltb-true, not-true
 use Rattle.le.specs.Number.{Bytes, value, field, number}
 use Rattle.le.specs.Choice.{pick}
 use Rattle.le.proofs.Laws.{field-length, Bytes-drop}
-use Rattle.chna.specs.Ids.{isHex, fitsOne, fits, codes, UNUSED, UID, TRACK, CHANNEL, PACK, NOPACK}
-use Rattle.chna.specs.Contracts.{hexes}
+use Rattle.chna_entry.specs.Ids.{isHex, fitsOne, fits, codes, UNUSED, UID, TRACK, CHANNEL, PACK, NOPACK}
+use Rattle.chna_entry.specs.Contracts.{hexes}
 
 -- ---- two tests, the second asked where the first holds
 
@@ -171,6 +171,38 @@ unfolding number
 text-at ps at s e h k =
     fits-text ps (field (length ps) at s) e (field-length (length ps) at s k) (bytes-field (length ps) at s h)
 
+-- ---- what a pattern tells of the bytes that fit it
+
+pub fits-length : (ps l : List ℕ) → fits ps l ≡ true → length l ≡ length ps
+unfolding fits pick
+fits-length [] [] e = refl
+fits-length [] (b ∷ l) e = absurd (true≢false (sym e))
+fits-length (p ∷ ps) [] e = absurd (true≢false (sym e))
+fits-length (p ∷ ps) (b ∷ l) e = ap suc (fits-length ps l (both-second (fitsOne p b) (fits ps l) e))
+
+pub either-length : (ps qs l : List ℕ) → length ps ≡ length qs → (fits ps l || fits qs l) ≡ true → length l ≡ length ps
+either-length ps qs l n e = by (fits ps l) refl e where
+  by : (b : Bool) → fits ps l ≡ b → (b || fits qs l) ≡ true → length l ≡ length ps
+  by true f g = fits-length ps l f
+  by false f g = fits-length qs l g ∙ sym n
+
+pub misfits : (ps l : List ℕ) → (length l ≡ length ps → ⊥) → fits ps l ≡ false
+misfits ps l h = by (fits ps l) refl where
+  by : (b : Bool) → fits ps l ≡ b → b ≡ false
+  by true f = absurd (h (fits-length ps l f))
+  by false f = refl
+
+-- zeros are all that fits a pattern of zeros
+pub zeros-only : (n : ℕ) (l : List ℕ) → fits (replicate n 0) l ≡ true → l ≡ replicate n 0
+unfolding fits fitsOne pick
+zeros-only zero [] e = refl
+zeros-only zero (b ∷ l) e = absurd (true≢false (sym e))
+zeros-only (suc n) [] e = absurd (true≢false (sym e))
+zeros-only (suc n) (b ∷ l) e =
+    ap₂ (λ (x : ℕ) (y : List ℕ). x ∷ y)
+    (eqb-true b 0 (both-first (eqb b 0) (fits (replicate n 0) l) e))
+    (zeros-only n l (both-second (eqb b 0) (fits (replicate n 0) l) e))
+
 -- ---- the patterns of an entry, as the code tests them
 
 -- two patterns that differ in their first part and in their last
@@ -192,7 +224,7 @@ abbrev pub reference-end : List ℕ → Bool
 reference-end e =
     pick (eqb (number 2 14 e) 0x5441) (fits (hexes 2) (field 2 26 e)) (both (eqb (number 2 14 e) 0x4341) (eqb (number 2 26 e) 0x3030))
 
-module _ (e : List ℕ) (h : Bytes e) (n : length e ≡ 40) where
+module _ (e : List ℕ) (h : Bytes e) (n : 39 ≤ length e) where
   pub uid-tests : fits UID (field 12 2 e) ≡ both (eqb (number 4 2 e) 0x5F555441) (fits (hexes 8) (field 8 6 e))
   unfolding codes value plain
   uid-tests =
@@ -248,19 +280,20 @@ module _ (e : List ℕ) (h : Bytes e) (n : length e ≡ 40) where
       (fits-split (replicate 2 0) (replicate 1 0) 36 e (omega arith)
       ∙ ap₂ both (text-at (replicate 2 0) 36 e refl h (omega arith)) (one 0 38 e (omega arith)))
 
-  pub unused-tests : fits UNUSED e
-      ≡ both (eqb (number 8 0 e) 0)
-      (both (eqb (number 8 8 e) 0)
-      (both (eqb (number 8 16 e) 0)
-      (both (eqb (number 8 24 e) 0) (eqb (number 8 32 e) 0))))
-  unfolding value plain field
-  unused-tests =
-      ap (fits UNUSED) (sym (take-all 40 e (omega arith)))
-      ∙ fits-split (replicate 8 0) (replicate 32 0) 0 e (omega arith)
-      ∙ ap₂ both (text-at (replicate 8 0) 0 e refl h (omega arith))
-      (fits-split (replicate 8 0) (replicate 24 0) 8 e (omega arith)
-      ∙ ap₂ both (text-at (replicate 8 0) 8 e refl h (omega arith))
-      (fits-split (replicate 8 0) (replicate 16 0) 16 e (omega arith)
-      ∙ ap₂ both (text-at (replicate 8 0) 16 e refl h (omega arith))
-      (fits-split (replicate 8 0) (replicate 8 0) 24 e (omega arith)
-      ∙ ap₂ both (text-at (replicate 8 0) 24 e refl h (omega arith)) (text-at (replicate 8 0) 32 e refl h (omega arith)))))
+pub unused-tests : (e : List ℕ) → Bytes e → length e ≡ 40
+    → fits UNUSED e
+    ≡ both (eqb (number 8 0 e) 0)
+    (both (eqb (number 8 8 e) 0)
+    (both (eqb (number 8 16 e) 0)
+    (both (eqb (number 8 24 e) 0) (eqb (number 8 32 e) 0))))
+unfolding value plain field
+unused-tests e h n =
+    ap (fits UNUSED) (sym (take-all 40 e (omega arith)))
+    ∙ fits-split (replicate 8 0) (replicate 32 0) 0 e (omega arith)
+    ∙ ap₂ both (text-at (replicate 8 0) 0 e refl h (omega arith))
+    (fits-split (replicate 8 0) (replicate 24 0) 8 e (omega arith)
+    ∙ ap₂ both (text-at (replicate 8 0) 8 e refl h (omega arith))
+    (fits-split (replicate 8 0) (replicate 16 0) 16 e (omega arith)
+    ∙ ap₂ both (text-at (replicate 8 0) 16 e refl h (omega arith))
+    (fits-split (replicate 8 0) (replicate 8 0) 24 e (omega arith)
+    ∙ ap₂ both (text-at (replicate 8 0) 24 e refl h (omega arith)) (text-at (replicate 8 0) 32 e refl h (omega arith)))))

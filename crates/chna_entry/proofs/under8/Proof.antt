@@ -1,11 +1,11 @@
--- `chna::under8` meets its contract: an underscore, and then eight digits.
+-- `chna_entry::under8` meets its contract: an underscore, and then eight digits.
 -- Assumes nothing.
 use mathlib.Core.Path.{_∙_, sym}
 use borrow.Author.Tests.{eq-eqb, ne-eqb}
-use Rattle.chna.proofs.Patterns.{no, yes, under-hex}
+use Rattle.chna_entry.proofs.Patterns.{no, yes, under-hex}
 use borrow.Author.Needs.{needs}
-use Rattle.chna.proofs.under8.Statement.{statement}
-use Rattle.chna.proofs.under8.Tie as tie
+use Rattle.chna_entry.proofs.under8.Statement.{statement}
+use Rattle.chna_entry.proofs.under8.Tie as tie
 
 shared-slice-read-if1 : tie.Need-shared-slice-read-if1
 shared-slice-read-if1 c = search needs

@@ -1,13 +1,13 @@
--- `chna::hex8` meets its contract: its digits are 4 and 4.
+-- `chna_entry::hex8` meets its contract: its digits are 4 and 4.
 -- Assumes nothing.
 use mathlib.Core.Path.{_∙_, sym}
 use native.Mathlib.Omega.{arith}
 use borrow.Author.Tests.{not-true, not-false}
-use Rattle.chna.specs.Contracts.{hexes}
-use Rattle.chna.proofs.Patterns.{no, yes, fits-split}
+use Rattle.chna_entry.specs.Contracts.{hexes}
+use Rattle.chna_entry.proofs.Patterns.{no, yes, fits-split}
 use borrow.Author.Needs.{needs}
-use Rattle.chna.proofs.hex8.Statement.{statement}
-use Rattle.chna.proofs.hex8.Tie as tie
+use Rattle.chna_entry.proofs.hex8.Statement.{statement}
+use Rattle.chna_entry.proofs.hex8.Tie as tie
 
 hex4-requires : tie.Need-hex4-requires
 hex4-requires c κs = search needs

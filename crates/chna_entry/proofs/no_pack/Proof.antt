@@ -1,4 +1,4 @@
--- `chna::no_pack` meets its contract: zero bytes are the number 0.
+-- `chna_entry::no_pack` meets its contract: zero bytes are the number 0.
 -- Assumes nothing.
 use mathlib.Core.Path.{_≡_, sym}
 use native.Mathlib.Omega.{arith}
@@ -6,10 +6,10 @@ use lib.Dec.{eqb}
 use lib.ListN.{getD}
 use borrow.Author.Needs.{needs}
 use Rattle.le.specs.Number.{Bytes, field, number}
-use Rattle.chna.specs.Ids.{fits, NOPACK}
-use Rattle.chna.proofs.Patterns.{both, no, yes, equal, unequal, nopack-tests}
-use Rattle.chna.proofs.no_pack.Statement.{statement}
-use Rattle.chna.proofs.no_pack.Tie as tie
+use Rattle.chna_entry.specs.Ids.{fits, NOPACK}
+use Rattle.chna_entry.proofs.Patterns.{both, no, yes, equal, unequal, nopack-tests}
+use Rattle.chna_entry.proofs.no_pack.Statement.{statement}
+use Rattle.chna_entry.proofs.no_pack.Tie as tie
 
 -- what is left to ask past the first eight bytes
 past : (c : tie.Else1)

@@ -1,10 +1,10 @@
--- `chna::is_hex` meets its contract: at each exit the tests on the way say in which range the byte lies.
+-- `chna_entry::is_hex` meets its contract: at each exit the tests on the way say in which range the byte lies.
 -- Assumes nothing.
 use native.Mathlib.Omega.{arith}
 use borrow.Author.Tests.{le-leb, lt-leb}
-use Rattle.chna.specs.Ids.{isHex}
-use Rattle.chna.proofs.is_hex.Statement.{statement}
-use Rattle.chna.proofs.is_hex.Tie as tie
+use Rattle.chna_entry.specs.Ids.{isHex}
+use Rattle.chna_entry.proofs.is_hex.Statement.{statement}
+use Rattle.chna_entry.proofs.is_hex.Tie as tie
 
 returns : tie.Need-returns
 unfolding isHex

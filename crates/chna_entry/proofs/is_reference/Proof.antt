@@ -1,4 +1,4 @@
--- `chna::is_reference` meets its contract: what both forms ask, and then each form's own end.
+-- `chna_entry::is_reference` meets its contract: what both forms ask, and then each form's own end.
 -- Assumes nothing.
 use mathlib.Core.Path.{_≡_, _∙_, sym, ap}
 use mathlib.Core.Bool.{_||_}
@@ -8,11 +8,11 @@ use lib.Dec.{eqb}
 use lib.ListN.{getD}
 use borrow.Author.Tests.{eq-eqb, ne-eqb, not-true, not-false}
 use Rattle.le.specs.Number.{Bytes, field}
-use Rattle.chna.specs.Ids.{fits, TRACK, CHANNEL}
-use Rattle.chna.proofs.Patterns.{both, no, yes, equal, unequal, picked, passed, reference-end, reference-tests}
+use Rattle.chna_entry.specs.Ids.{fits, TRACK, CHANNEL}
+use Rattle.chna_entry.proofs.Patterns.{both, no, yes, equal, unequal, picked, passed, reference-end, reference-tests}
 use borrow.Author.Needs.{needs}
-use Rattle.chna.proofs.is_reference.Statement.{statement}
-use Rattle.chna.proofs.is_reference.Tie as tie
+use Rattle.chna_entry.proofs.is_reference.Statement.{statement}
+use Rattle.chna_entry.proofs.is_reference.Tie as tie
 
 under8-requires : tie.Need-under8-requires
 under8-requires c κs = search needs

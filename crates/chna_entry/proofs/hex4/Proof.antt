@@ -1,13 +1,13 @@
--- `chna::hex4` meets its contract: its digits are 2 and 2.
+-- `chna_entry::hex4` meets its contract: its digits are 2 and 2.
 -- Assumes nothing.
 use mathlib.Core.Path.{_∙_, sym}
 use native.Mathlib.Omega.{arith}
 use borrow.Author.Tests.{not-true, not-false}
-use Rattle.chna.specs.Contracts.{hexes}
-use Rattle.chna.proofs.Patterns.{no, yes, fits-split}
+use Rattle.chna_entry.specs.Contracts.{hexes}
+use Rattle.chna_entry.proofs.Patterns.{no, yes, fits-split}
 use borrow.Author.Needs.{needs}
-use Rattle.chna.proofs.hex4.Statement.{statement}
-use Rattle.chna.proofs.hex4.Tie as tie
+use Rattle.chna_entry.proofs.hex4.Statement.{statement}
+use Rattle.chna_entry.proofs.hex4.Tie as tie
 
 hex2-requires : tie.Need-hex2-requires
 hex2-requires c κs = search needs

@@ -1,13 +1,13 @@
--- `chna::is_uid` meets its contract: four characters are one number.
+-- `chna_entry::is_uid` meets its contract: four characters are one number.
 -- Assumes nothing.
 use mathlib.Core.Path.{_∙_, sym}
 use native.Mathlib.Omega.{arith}
 use borrow.Author.Tests.{eq-eqb, ne-eqb}
 use Rattle.le.specs.Number.{Bytes}
-use Rattle.chna.proofs.Patterns.{no, yes, uid-tests}
+use Rattle.chna_entry.proofs.Patterns.{no, yes, uid-tests}
 use borrow.Author.Needs.{needs}
-use Rattle.chna.proofs.is_uid.Statement.{statement}
-use Rattle.chna.proofs.is_uid.Tie as tie
+use Rattle.chna_entry.proofs.is_uid.Statement.{statement}
+use Rattle.chna_entry.proofs.is_uid.Tie as tie
 
 read4-requires : tie.Need-read4-requires
 read4-requires c κs = search needs

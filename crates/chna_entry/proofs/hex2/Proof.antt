@@ -1,11 +1,11 @@
--- `chna::hex2` meets its contract: two digits are a first and a second.
+-- `chna_entry::hex2` meets its contract: two digits are a first and a second.
 -- Assumes nothing.
 use mathlib.Core.Path.{_∙_, sym}
 use borrow.Author.Tests.{not-true, not-false}
-use Rattle.chna.proofs.Patterns.{no, yes, two-hex}
+use Rattle.chna_entry.proofs.Patterns.{no, yes, two-hex}
 use borrow.Author.Needs.{needs}
-use Rattle.chna.proofs.hex2.Statement.{statement}
-use Rattle.chna.proofs.hex2.Tie as tie
+use Rattle.chna_entry.proofs.hex2.Statement.{statement}
+use Rattle.chna_entry.proofs.hex2.Tie as tie
 
 shared-slice-read-is-hex : tie.Need-shared-slice-read-is-hex
 shared-slice-read-is-hex c = search needs

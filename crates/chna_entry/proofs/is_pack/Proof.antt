@@ -1,12 +1,12 @@
--- `chna::is_pack` meets its contract: each test asks its part of the pattern.
+-- `chna_entry::is_pack` meets its contract: each test asks its part of the pattern.
 -- Assumes nothing.
 use mathlib.Core.Path.{_∙_, sym}
 use native.Mathlib.Omega.{arith}
 use Rattle.le.specs.Number.{Bytes}
-use Rattle.chna.proofs.Patterns.{no, yes, equal, unequal, pack-tests}
+use Rattle.chna_entry.proofs.Patterns.{no, yes, equal, unequal, pack-tests}
 use borrow.Author.Needs.{needs}
-use Rattle.chna.proofs.is_pack.Statement.{statement}
-use Rattle.chna.proofs.is_pack.Tie as tie
+use Rattle.chna_entry.proofs.is_pack.Statement.{statement}
+use Rattle.chna_entry.proofs.is_pack.Tie as tie
 
 read2-requires : tie.Need-read2-requires
 read2-requires c κs = search needs
