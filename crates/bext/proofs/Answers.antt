@@ -1,22 +1,26 @@
 -- What each rule of a payload says of the reader's answer: one that is broken is 13, and none broken is the record.
 -- Assumes nothing.
-use mathlib.Core.Path.{_≡_, refl, sym, _∙_}
+use mathlib.Core.Path.{_≡_, refl}
 use mathlib.Core.Bool.{Bool, true, false, not, _||_}
 use mathlib.Core.List.{List, [], _∷_}
-use Prim.Native.Nat.{ℕ, zero, suc, _≤_}
+use Prim.Native.Nat.{ℕ, zero, suc, _-_, _≤_}
 use native.Mathlib.Omega.{arith}
-use lib.ListN.{length, drop, getD}
+use lib.ListN.{length, take, drop, getD, length-drop}
+use lib.Seq.{take-all}
 use lib.Dec.{eqb}
 use borrow.Author.Tests.{le-leb}
 use Rattle.le.specs.Number.{field, number}
 use Rattle.le.specs.Choice.{every}
 use Rattle.chunk.specs.declared.Refusal.the-variants.{BadBext}
 use Rattle.chunk.proofs.Checks.{true-false}
-use Rattle.bext.specs.Records.{allZero, textOf, textGood, dateGood, timeGood, restGood, setOf, rulesOf, wholeIn, bextIn, readAs, numbersOf}
-use Rattle.bext.specs.Contracts.{partOf}
-use Rattle.bext.specs.declared.Part.{Part}
-use Rattle.bext.specs.declared.Part.the-variants as part
+use Rattle.bext_parts.specs.Parts.{allZero, textOf, textGood, dateGood, timeGood, setOf, restGood}
+use Rattle.bext_parts.proofs.Parts.{Kept}
+use Rattle.bext.specs.Records.{rulesOf, wholeIn, bextIn, readAs, numbersOf}
 use Rattle.bext.specs.declared.Reading.the-variants as reading
+
+-- a part that goes to the end
+pub to-the-end : (n : ℕ) (s : List ℕ) → take (length s - n) (drop n s) ≡ drop n s
+to-the-end n s = take-all (length s - n) (drop n s) (rw (length-drop n s) (omega arith))
 
 -- a list of rules fails where one does
 pub one-fails : (bs : List Bool) (k : ℕ) → getD bs k true ≡ false → every bs ≡ false
@@ -35,34 +39,6 @@ broken p k e = rw (one-fails (rulesOf p) k e)
 pub kept : (p : List ℕ) → every (rulesOf p) ≡ true → reading.Record (numbersOf (wholeIn p)) ≡ readAs (bextIn p)
 unfolding bextIn readAs
 kept p e = rw e
-
--- ---- what a part holds says whether its rule is kept
-
-pub part-bad : (b : Bool) (n : ℕ) → partOf b n ≡ part.Bad → b ≡ false
-unfolding partOf
-part-bad true n e = let z : _≡_ {A = ℕ} 0 1 = cc in absurd (omega arith)
-part-bad false n e = refl
-
-pub part-kept : (b : Bool) (n m : ℕ) → partOf b n ≡ part.Length m → b ≡ true
-unfolding partOf
-part-kept true n m e = refl
-part-kept false n m e = let z : _≡_ {A = ℕ} 0 1 = cc in absurd (omega arith)
-
-pub part-length : (b : Bool) (n m : ℕ) → partOf b n ≡ part.Length m → m ≡ n
-unfolding partOf
-part-length true n m e = cc
-part-length false n m e = let z : _≡_ {A = ℕ} 0 1 = cc in absurd (omega arith)
-
--- a part that keeps its rule, and its length
-pub record Kept (rule : Bool) (length found : ℕ) : Type 0 where
-  pub holds : rule ≡ true
-  pub is : found ≡ length
-
-pub part-good : {r : Part} (b : Bool) (n m : ℕ) → r ≡ partOf b n → r ≡ part.Length m → Kept b n m
-part-good b n m e f = record { holds = part-kept b n m (sym e ∙ f); is = part-length b n m (sym e ∙ f) }
-
-pub part-broken : {r : Part} (b : Bool) (n : ℕ) → r ≡ partOf b n → r ≡ part.Bad → b ≡ false
-part-broken b n e f = part-bad b n (sym e ∙ f)
 
 -- a payload all of whose rules are kept, and the record that its parts say
 pub accepted : (p : List ℕ) {d o r y t h reference version : ℕ} → 602 ≤ length p

@@ -4,7 +4,8 @@ use mathlib.Core.Path.{_≡_, refl}
 use mathlib.Core.Bool.{true}
 use Rattle.le.specs.Number.{field, number, value}
 use Rattle.le.specs.Choice.{every}
-use Rattle.bext.specs.Records.{allZero, textOf, textGood, isDigit, twoDigits, isSeparator, dateGood, timeGood, restGood, rulesOf, bextIn}
+use Rattle.bext_parts.specs.Parts.{allZero, textOf, textGood, isDigit, twoDigits, isSeparator, dateGood, timeGood, restGood}
+use Rattle.bext.specs.Records.{rulesOf, bextIn}
 use Rattle.bext.specs.Cases.{dated, timed, payload, accepted, refusedBy13, good, bad}
 
 pub good-holds : every good ≡ true

@@ -1,20 +1,22 @@
 -- A record that could have been read: its rules one by one, that its parts fit their places, and what the writer answers
 -- and leaves for it.
 -- Assumes nothing.
-use mathlib.Core.Path.{_≡_, refl}
-use mathlib.Core.Bool.{Bool, true, false, _&&_, _||_}
+use mathlib.Core.Path.{_≡_}
+use mathlib.Core.Bool.{Bool, true, false, _&&_}
 use mathlib.Core.List.{List, _++_}
 use Prim.Native.Nat.{ℕ, _^_, _≤_, _<_}
-use native.Mathlib.Omega.{arith}
-use borrow.Author.Tests.{leb-true, eqb-true, le-leb, lt-leb}
+use borrow.Author.Tests.{eqb-true, le-leb, lt-leb}
 use lib.ListN.{length, drop}
-use lib.Dec.{eqb, leb, ltb}
+use lib.Dec.{eqb, ltb}
 use Rattle.chunk.specs.declared.Refusal.the-variants.{BadRecord, ShortOutput}
 use Rattle.chunk.specs.declared.Written.the-variants as written
 use Rattle.chunk.specs.Writes.{fitting, writtenOf, outputOf}
 use Rattle.chunk.proofs.Checks.{and-true}
-use Rattle.bext.specs.Records.{Whole, dateGood, timeGood, restGood, textGood, textOf}
-use Rattle.bext.specs.Writing.{textGiven, dateGiven, timeGiven, restGiven, writable, laid, bextOut, Writes}
+use Rattle.bext_parts.specs.Parts.{textGood, dateGood, timeGood, restGood, textGiven, dateGiven, timeGiven, restGiven}
+use Rattle.bext_parts.proofs.Texts.{text-fits}
+use Rattle.bext_parts.proofs.Stamps.{length-given}
+use Rattle.bext.specs.Records.{Whole}
+use Rattle.bext.specs.Writing.{writable, laid, bextOut, Writes}
 use Rattle.bext.specs.Contracts.{Fitting}
 
 -- ---- the rules, as far as each of them
@@ -80,22 +82,6 @@ all-good w g =
     rw (g .timeref, g .description, g .originator, g .reference, g .date, g .time, g .version, g .rest, g .history)
 
 -- ---- the parts fit
-
--- none, or n that are good
-length-given : (k n : ℕ) (b : Bool) → (eqb k 0 || eqb k n && b) ≡ true → k ≤ n
-length-given k n b e = first (eqb k 0) refl e
-  where
-    second : (t : Bool) → eqb k n ≡ t → (t && b) ≡ true → k ≤ n
-    second true f h = omega (arith, eqb-true k n f)
-    second false f h = let z : _≡_ {A = ℕ} 0 1 = cc in absurd (omega arith)
-
-    first : (t : Bool) → eqb k 0 ≡ t → (t || eqb k n && b) ≡ true → k ≤ n
-    first true f h = omega (arith, eqb-true k 0 f)
-    first false f h = second (eqb k n) refl h
-
-text-fits : (n : ℕ) (t : List ℕ) → textGiven n t ≡ true → length t ≤ n
-unfolding textGiven
-text-fits n t e = leb-true (length t) n (and-true (leb (length t) n) (eqb (length (textOf t)) (length t)) e .0)
 
 pub good-fits : (w : Whole) → Good w → Fitting w
 unfolding dateGiven timeGiven restGiven

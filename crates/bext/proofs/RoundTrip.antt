@@ -6,7 +6,7 @@ use mathlib.Core.Bool.{Bool, true, false, _||_}
 use mathlib.Core.List.{List, _∷_, _++_, append-assoc}
 use Prim.Native.Nat.{ℕ, _+_, _^_, _≤_}
 use native.Mathlib.Omega.{arith}
-use borrow.Author.Tests.{le-leb, leb-true, lt-ltb, ltb-true, eq-eqb, eqb-true}
+use borrow.Author.Tests.{le-leb, leb-true, lt-ltb, ltb-true, eq-eqb}
 use lib.ListN.{length, take, drop, take-append-drop}
 use lib.Seq.{take-at, drop-at, drop-drop, take-add}
 use lib.Dec.{eqb, leb, lit≤}
@@ -18,11 +18,12 @@ use Rattle.chunk.specs.declared.Written.the-variants as written
 use Rattle.chunk.specs.Refusals.{Answer, given, refused}
 use Rattle.chunk.specs.Writes.{fitting, writtenOf, outputOf}
 use Rattle.chunk.proofs.Checks.{given-inj, check-given, check-true, rule-and, and-true}
-use Rattle.bext.specs.Records.{Whole, allZero, textOf, textGood, dateGood, timeGood, restGood, rulesOf, wholeIn, bextIn}
-use Rattle.bext.specs.Writing.{textGiven, dateGiven, timeGiven, restGiven, writable, padded, laid, bextOut, Writes}
+use Rattle.bext_parts.specs.Parts.{allZero, textOf, textGood, dateGood, timeGood, restGood, textGiven, dateGiven, timeGiven, restGiven, padded}
+use Rattle.bext_parts.proofs.Texts.{text-short, text-again, text-whole, padded-text, padded-good, text-back}
+use Rattle.bext_parts.proofs.Stamps.{Back, Forth, back, forth, date-set, time-set}
+use Rattle.bext.specs.Records.{Whole, rulesOf, wholeIn, bextIn}
+use Rattle.bext.specs.Writing.{writable, laid, bextOut, Writes}
 use Rattle.bext.specs.Contracts.{Fitting}
-use Rattle.bext.proofs.Texts.{text-short, text-again, padded-text, padded-good, text-back}
-use Rattle.bext.proofs.Stamps.{Back, Forth, back, forth, date-set, time-set}
 use Rattle.bext.proofs.Stores.{padded-length, laid-length, front1}
 use Rattle.bext.proofs.Outs.{Good, good, all-good, good-fits}
 
@@ -116,11 +117,6 @@ module _ (w : Whole) (fit : Fitting w) where
 
   from9 : drop 602 (laid w) ≡ tail9 w
   from9 = cut-drop 254 348 (laid w) (w .rest) (tail9 w) from8 (fit .rest-fits)
-
--- none of a text's bytes is zero
-text-whole : (n : ℕ) (t : List ℕ) → textGiven n t ≡ true → length (textOf t) ≡ length t
-unfolding textGiven
-text-whole n t e = eqb-true (length (textOf t)) (length t) (and-true (leb (length t) n) (eqb (length (textOf t)) (length t)) e .1)
 
 module _ (w : Whole) (g : Good w) where
   fits : Fitting w

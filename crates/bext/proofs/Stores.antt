@@ -11,8 +11,9 @@ use lib.Seq.{sets, sets-eq, take-suc, length-take-le}
 use lib.Dec.{eqb·suc-zero}
 use Rattle.le.specs.Number.{bytes}
 use Rattle.le.proofs.Laws.{sets-append, bytes-length}
+use Rattle.bext_parts.specs.Parts.{restOf, padded}
 use Rattle.bext.specs.Records.{Whole}
-use Rattle.bext.specs.Writing.{padded, restOf, laid}
+use Rattle.bext.specs.Writing.{laid}
 use Rattle.bext.specs.Contracts.{Fitting}
 
 -- a run after a run

@@ -6,7 +6,8 @@ use lib.ListN.{replicate}
 use lib.Seq.{sets}
 use lib.Dec.{eqb}
 use Rattle.chunk.specs.Refusals.{Answer, refused, given, refusalNumber}
-use Rattle.bext.specs.Records.{Whole, textGood, dateGood, timeGood, restGood, bextIn}
+use Rattle.bext_parts.specs.Parts.{textGood, dateGood, timeGood, restGood}
+use Rattle.bext.specs.Records.{Whole, bextIn}
 
 -- 2024?mm.dd by the two digits of month and day, and the first separator
 unfoldable pub dated : ℕ → ℕ → ℕ → ℕ → ℕ → List ℕ

@@ -1,17 +1,8 @@
 -- What only the code's contracts need.
-use Prim.Native.Nat.{ℕ, _≤_}
+use Prim.Native.Nat.{_≤_}
 use mathlib.Core.Path.{_≡_}
-use mathlib.Core.Bool.{Bool}
 use lib.ListN.{length}
-use Rattle.le.specs.Choice.{pick}
-use Rattle.bext.specs.declared.Part.{Part}
-use Rattle.bext.specs.declared.Part.the-variants as part
 use Rattle.bext.specs.Records.{Whole}
-
--- what a part holds: so many bytes, where it keeps its rule
-unfoldable pub partOf : Bool → ℕ → Part
-unfolding pick
-partOf good n = pick good (part.Length n) part.Bad
 
 -- each part of a record fits its place
 pub record Fitting (w : Whole) : Type 0 where

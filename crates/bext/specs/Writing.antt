@@ -1,34 +1,18 @@
 -- Document 01, "bext" (001 4.3): the payload of a record, or 16.
 use mathlib.Core.Path.{_≡_}
-use Prim.Native.Nat.{ℕ, _-_, _^_}
-use mathlib.Core.Bool.{Bool, _&&_, _||_}
+use Prim.Native.Nat.{ℕ, _^_}
+use mathlib.Core.Bool.{Bool, _&&_}
 use mathlib.Core.List.{List, _++_}
-use lib.ListN.{length, replicate}
-use lib.Dec.{eqb, leb, ltb}
+use lib.Dec.{ltb}
 use Rattle.le.specs.Number.{bytes}
-use Rattle.le.specs.Choice.{pick}
 use Rattle.chunk.specs.declared.Refusal.the-variants.{BadRecord}
 use Rattle.chunk.specs.declared.Written.{Written}
 use Rattle.chunk.specs.Refusals.{Answer, given, check}
 use Rattle.chunk.specs.Writes.{fitting, writtenOf, outputOf}
-use Rattle.bext.specs.Records.{textOf, textGood, dateGood, timeGood, restGood, Whole}
+use Rattle.bext_parts.specs.Parts.{textGood, textGiven, dateGiven, timeGiven, restGiven, restOf, padded}
+use Rattle.bext.specs.Records.{Whole}
 
 -- ---- a record that could have been read
-
--- a text of at most n bytes, none of them zero
-unfoldable pub textGiven : ℕ → List ℕ → Bool
-textGiven n t = leb (length t) n && eqb (length (textOf t)) (length t)
-
--- a date, or none for "not set"
-unfoldable pub dateGiven : List ℕ → Bool
-dateGiven d = eqb (length d) 0 || eqb (length d) 10 && dateGood d
-
-unfoldable pub timeGiven : List ℕ → Bool
-timeGiven t = eqb (length t) 0 || eqb (length t) 8 && timeGood t
-
--- the 254 bytes after Version
-unfoldable pub restGiven : ℕ → List ℕ → Bool
-restGiven version rest = eqb (length rest) 254 && restGood version rest
 
 unfoldable pub writable : Whole → Bool
 writable w =
@@ -43,10 +27,6 @@ writable w =
     && textGood (w .history)
 
 -- ---- its payload
-
--- a text and zeros after it, n bytes in all
-unfoldable pub padded : ℕ → List ℕ → List ℕ
-padded n t = t ++ replicate (n - length t) 0
 
 -- "Description 256, Originator 32, Reference 32, date 10, time 8, TimeReference low 4 and high 4, Version 2, then 254
 -- bytes, then the coding history to the end"
@@ -68,11 +48,6 @@ unfolding check
 bextOut w = check (writable w) BadRecord (given (laid w))
 
 -- ---- the writer
-
--- the 254 bytes that a writer is given: none at all stand for zeros
-unfoldable pub restOf : List ℕ → List ℕ
-unfolding pick
-restOf rest = pick (eqb (length rest) 0) (replicate 254 0) rest
 
 -- the record that a writer is given, part by part
 unfoldable pub asked : List ℕ → List ℕ → List ℕ → List ℕ → List ℕ → ℕ → ℕ → List ℕ → List ℕ → Whole

@@ -4,7 +4,7 @@ use mathlib.Core.Path.{_∙_, ap, refl}
 use Prim.Native.Nat.{_+_, _-_}
 use lib.ListN.{length, replicate}
 use lib.Seq.{sets}
-use Rattle.bext.specs.Writing.{padded}
+use Rattle.bext_parts.specs.Parts.{padded}
 use Rattle.bext.proofs.Stores.{puts-next}
 use borrow.Author.Needs.{needs}
 use Rattle.bext.proofs.put_text.Statement.{statement}

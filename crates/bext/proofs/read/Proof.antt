@@ -10,10 +10,10 @@ use native.Mathlib.Omega.{arith}
 use lib.ListN.{length, take, drop}
 use lib.Dec.{lit≤}
 use Rattle.le.specs.Number.{field}
-use Rattle.le.proofs.Laws.{field-length}
-use Rattle.bext.specs.Records.{textGood, textOf, allZero, dateGood, timeGood, setOf, restGood, rulesOf}
-use Rattle.bext.proofs.Texts.{to-the-end}
-use Rattle.bext.proofs.Answers.{Kept, part-good, part-broken, broken, accepted}
+use Rattle.bext_parts.specs.Parts.{allZero, textOf, textGood, dateGood, timeGood, setOf, restGood}
+use Rattle.bext_parts.proofs.Parts.{Kept, part-good, part-broken}
+use Rattle.bext.specs.Records.{rulesOf}
+use Rattle.bext.proofs.Answers.{to-the-end, broken, accepted}
 use Rattle.bext.proofs.read.Statement.{statement}
 use Rattle.bext.proofs.read.Tie as tie
 
@@ -97,8 +97,7 @@ part-date-end : tie.Need-part-date-end
 part-date-end c = le-trans (lit≤ tt) (c .before .before .before .before .before .before .before .before .before .before .before .before .before .before .before .if1 .left)
 
 date-requires : tie.Need-date-requires
-unfolding field
-date-requires c κs = field-length 10 320 (c .before .before .before .before .before .before .before .before .before .before .before .before .before .before .before .before .before .before .args .payload .now) (le-trans (lit≤ tt) (c .before .before .before .before .before .before .before .before .before .before .before .before .before .before .before .before .if1 .left))
+date-requires c κs = tt
 
 enum-known-date : tie.Need-enum-known-date
 enum-known-date c = c .match4 .keys1
@@ -120,8 +119,7 @@ part-time-end : tie.Need-part-time-end
 part-time-end c = le-trans (lit≤ tt) (c .before .before .before .before .before .before .before .before .before .before .before .before .before .before .before .before .before .before .before .before .if1 .left)
 
 time-requires : tie.Need-time-requires
-unfolding field
-time-requires c κs = field-length 8 330 (c .before .before .before .before .before .before .before .before .before .before .before .before .before .before .before .before .before .before .before .before .before .before .before .args .payload .now) (le-trans (lit≤ tt) (c .before .before .before .before .before .before .before .before .before .before .before .before .before .before .before .before .before .before .before .before .before .if1 .left))
+time-requires c κs = tt
 
 enum-known-time : tie.Need-enum-known-time
 enum-known-time c = c .match5 .keys1

@@ -3,9 +3,10 @@
 use mathlib.Core.Path.{_≡_, refl}
 use mathlib.Core.Logic.{⊎-elim}
 use borrow.Author.Needs.{needs}
+use Rattle.bext_parts.specs.Parts.{restOf}
+use Rattle.bext_parts.proofs.Tests.{and-first, and-second}
 use Rattle.bext.specs.Records.{Whole}
-use Rattle.bext.specs.Writing.{restOf, writable, asked}
-use Rattle.bext.proofs.Tests.{and-first, and-second}
+use Rattle.bext.specs.Writing.{writable, asked}
 use Rattle.bext.proofs.Outs.{good3, good4, good5, good6, good7, good8}
 use Rattle.bext.proofs.record_good.Statement.{statement}
 use Rattle.bext.proofs.record_good.Tie as tie

@@ -8,8 +8,9 @@ use borrow.Author.Needs.{needs}
 use borrow.Author.Tests.{lt-ltb, not-true, not-false}
 use lib.ListN.{length}
 use Rattle.chunk.specs.declared.Written.the-variants as written
+use Rattle.bext_parts.specs.Parts.{restOf}
 use Rattle.bext.specs.Records.{Whole}
-use Rattle.bext.specs.Writing.{restOf, writable, asked, laid}
+use Rattle.bext.specs.Writing.{writable, asked, laid}
 use Rattle.bext.proofs.Stores.{puts-front, laid-length}
 use Rattle.bext.proofs.Outs.{good, good-fits, refuses, lacks-room, writes}
 use Rattle.bext.proofs.write.Statement.{statement}

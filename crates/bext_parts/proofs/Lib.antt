@@ -1,0 +1,5 @@
+pub mod Tests
+pub mod Texts
+pub mod Digits
+pub mod Stamps
+pub mod Parts
