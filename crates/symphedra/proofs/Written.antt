@@ -19,7 +19,7 @@ use Rattle.chunk.specs.Refusals.{Answer, refused, given, check, andThen}
 use Rattle.chunk.specs.Writes.{fitting, writtenOf, writtenNumber, writtenValues, outputOf}
 use Rattle.chunk.proofs.Checks.{pick-false, picked, check-true, check-false}
 use Rattle.symphedra.specs.Writers.{counted, WritesOut}
-use Rattle.symphedra.specs.Contracts.{Tells}
+use Rattle.words.specs.Contracts.{Tells}
 
 -- what is to be written is not empty
 abbrev pub Filled : Answer (List ℕ) → Type 0
@@ -93,14 +93,6 @@ lent out (x ∷ xs) n a h e =
 -- the part is of the output
 pub part : (out w : List ℕ) (n : ℕ) → n ≡ pick (eqb (length w) 0) 0 (length out) → n ≤ length out
 part out w n e = subst (λ (k : ℕ). k ≤ length out) (sym e) (picked (λ (k : ℕ). k ≤ length out) (eqb (length w) 0) 0 (length out) (λ h. omega arith) (λ h. omega arith))
-
--- ---- the word
-
-pub no-word : (w : List ℕ) (x : Written) → length w ≡ 0 → w ≡ sets w 0 (writtenValues x)
-unfolding writtenValues
-no-word [] (written.Bytes n) h = refl
-no-word [] (written.Refused r) h = refl
-no-word (v ∷ vs) x h = absurd (omega (arith, h))
 
 -- ---- the export
 

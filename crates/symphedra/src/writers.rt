@@ -4,54 +4,11 @@ use chunk::Written;
 use fmt::Format;
 use form::Form;
 ghost use mathlib.Core.Path.{_≡_};
-ghost use mathlib.Core.List.{[], _∷_};
 ghost use lib.ListN.{length};
-ghost use lib.Dec.{eqb};
-ghost use Rattle.le.specs.Choice.{pick};
-ghost use Rattle.chunk.specs.Writes.{writtenNumber, writtenValues};
 ghost use Rattle.fmt.specs.Writing.{formatOut};
 ghost use Rattle.bext.specs.Writing.{asked, bextOut};
 ghost use Rattle.chna.specs.Records.{chnaFrom};
 ghost use Rattle.symphedra.specs.Writers.{WritesOut, formatOf, ofNine, riff, rf64, bw64, fileOf};
-ghost use Rattle.symphedra.specs.Contracts.{Tells};
-
-// The number of an answer.
-fn number_of(answer: Written) -> u32
-    ensures { λ r. ⌜ r ≡ writtenNumber answer ⌝ }
-{
-    match answer {
-        Written::Bytes(_) => 0,
-        Written::Refused(r) => r.number(),
-    }
-}
-
-// The bytes that an answer says were written.
-fn count_of(answer: Written) -> u64
-    ensures { λ r. ⌜ writtenValues answer ≡ r ∷ [] ⌝ }
-{
-    match answer {
-        Written::Bytes(n) => n,
-        Written::Refused(_) => 0,
-    }
-}
-
-// Stores how many bytes were written, where there is a word for it, and gives the answer's number.
-fn tell(answer: Written, written: &mut [u64]) -> u32
-    ensures { λ r. ⌜ Tells answer (now (written .entry)) r (now (written .exit)) ⌝ }
-{
-    if written.len() == 0 {
-        return number_of(answer);
-    }
-    written[0] = count_of(answer);
-    number_of(answer)
-}
-
-// The bytes of the output that a writer is lent: none where there is no word to count them in, so that it gives 15.
-fn room(out: usize, words: usize) -> usize
-    ensures { λ r. ⌜ r ≡ pick (eqb words 0) 0 out ⌝ }
-{
-    if words == 0 { 0 } else { out }
-}
 
 // The format record in nine words.
 fn format_of(words: &[u64]) -> Format
@@ -77,11 +34,11 @@ pub extern "C" fn symphedra_write_fmt(record: &[u64], out: &mut [u8], written: &
     ensures { λ r. ⌜ WritesOut (ofNine (now («record» .entry)) formatOut) (now (out .entry)) (now (written .entry)) r (now (out .exit)) (now (written .exit)) ⌝ }
 {
     if record.len() != 9 {
-        return tell(Written::Refused(Refusal::BadRecord), written);
+        return words::tell(Written::Refused(Refusal::BadRecord), written);
     }
-    let end = room(out.len(), written.len());
+    let end = words::room(out.len(), written.len());
     let answer = fmt::write(format_of(record), &mut out[..end]);
-    tell(answer, written)
+    words::tell(answer, written)
 }
 
 // Writes the payload of a chna record of these counts and entries, in a file of so many channels.
@@ -96,7 +53,7 @@ pub extern "C" fn symphedra_write_chna(
 ) -> u32
     ensures { λ r. ⌜ WritesOut (chnaFrom channels tracks uids (now (entries .entry))) (now (out .entry)) (now (written .entry)) r (now (out .exit)) (now (written .exit)) ⌝ }
 {
-    let end = room(out.len(), written.len());
+    let end = words::room(out.len(), written.len());
     let answer = chna::write(
         tracks as u64,
         uids as u64,
@@ -104,7 +61,7 @@ pub extern "C" fn symphedra_write_chna(
         channels as u64,
         &mut out[..end],
     );
-    tell(answer, written)
+    words::tell(answer, written)
 }
 
 // Writes the payload of a bext record. A date or time of no bytes is not set, and a rest of none is 254 zeros.
@@ -124,7 +81,7 @@ pub extern "C" fn symphedra_write_bext(
 ) -> u32
     ensures { λ r. ⌜ WritesOut (bextOut (asked (now (description .entry)) (now (originator .entry)) (now (reference .entry)) (now (date .entry)) (now (time .entry)) timeref version (now (rest .entry)) (now (history .entry)))) (now (out .entry)) (now (written .entry)) r (now (out .exit)) (now (written .exit)) ⌝ }
 {
-    let end = room(out.len(), written.len());
+    let end = words::room(out.len(), written.len());
     let answer = bext::write(
         description,
         originator,
@@ -137,7 +94,7 @@ pub extern "C" fn symphedra_write_bext(
         history,
         &mut out[..end],
     );
-    tell(answer, written)
+    words::tell(answer, written)
 }
 
 // Writes a file of a form.
@@ -153,11 +110,11 @@ fn write_file(
     ensures { λ r. ⌜ WritesOut (fileOf form (now (words .entry)) (now (bext .entry)) (now (chna .entry)) (now (audio .entry))) (now (out .entry)) (now (written .entry)) r (now (out .exit)) (now (written .exit)) ⌝ }
 {
     if words.len() != 9 {
-        return tell(Written::Refused(Refusal::BadRecord), written);
+        return words::tell(Written::Refused(Refusal::BadRecord), written);
     }
-    let end = room(out.len(), written.len());
+    let end = words::room(out.len(), written.len());
     let answer = writer::write(form, format_of(words), bext, chna, audio, &mut out[..end]);
-    tell(answer, written)
+    words::tell(answer, written)
 }
 
 // Writes a RIFF file.

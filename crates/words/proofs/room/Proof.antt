@@ -1,10 +1,10 @@
--- `symphedra::writers::room` meets its contract: the test is known.
+-- `words::room` meets its contract: the test is known.
 -- Assumes nothing.
 use mathlib.Core.Path.{sym}
 use borrow.Author.Tests.{eq-eqb, ne-eqb}
 use Rattle.chunk.proofs.Checks.{pick-true, pick-false}
-use Rattle.symphedra.proofs.writers.room.Statement.{statement}
-use Rattle.symphedra.proofs.writers.room.Tie as tie
+use Rattle.words.proofs.room.Statement.{statement}
+use Rattle.words.proofs.room.Tie as tie
 
 returns : tie.Need-returns
 returns c = sym (pick-true _ _ _ (eq-eqb _ _ (c .if1 .taken)))

@@ -1,10 +1,10 @@
--- `symphedra::writers::number_of` meets its contract: in each arm the answer is known.
+-- `words::number_of` meets its contract: in each arm the answer is known.
 -- Assumes nothing.
 use mathlib.Core.Path.{sym, ap, _∙_}
 use Rattle.chunk.specs.Writes.{writtenNumber}
 use borrow.Author.Needs.{needs}
-use Rattle.symphedra.proofs.writers.number_of.Statement.{statement}
-use Rattle.symphedra.proofs.writers.number_of.Tie as tie
+use Rattle.words.proofs.number_of.Statement.{statement}
+use Rattle.words.proofs.number_of.Tie as tie
 
 enum-told : tie.Need-enum-told
 enum-told c = search needs

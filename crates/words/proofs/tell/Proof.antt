@@ -1,11 +1,23 @@
--- `symphedra::writers::tell` meets its contract: there is no word, or it takes the count.
+-- `words::tell` meets its contract: there is no word, or it takes the count.
 -- Assumes nothing.
-use mathlib.Core.Path.{ap, sym}
+use mathlib.Core.Path.{_≡_, refl, ap, sym}
+use mathlib.Core.List.{List, [], _∷_}
+use Prim.Native.Nat.{ℕ}
+use native.Mathlib.Omega.{arith}
+use lib.ListN.{length}
 use lib.Seq.{sets}
-use Rattle.symphedra.proofs.Written.{no-word}
+use Rattle.chunk.specs.declared.Written.{Written}
+use Rattle.chunk.specs.declared.Written.the-variants as written
+use Rattle.chunk.specs.Writes.{writtenValues}
 use borrow.Author.Needs.{needs}
-use Rattle.symphedra.proofs.writers.tell.Statement.{statement}
-use Rattle.symphedra.proofs.writers.tell.Tie as tie
+use Rattle.words.proofs.tell.Statement.{statement}
+use Rattle.words.proofs.tell.Tie as tie
+
+no-word : (w : List ℕ) (x : Written) → length w ≡ 0 → w ≡ sets w 0 (writtenValues x)
+unfolding writtenValues
+no-word [] (written.Bytes n) h = refl
+no-word [] (written.Refused r) h = refl
+no-word (v ∷ vs) x h = absurd (omega (arith, h))
 
 number-of-requires : tie.Need-number-of-requires
 number-of-requires c κs = search needs

@@ -1,10 +1,10 @@
--- `symphedra::writers::count_of` meets its contract: in each arm the answer is known.
+-- `words::count_of` meets its contract: in each arm the answer is known.
 -- Assumes nothing.
 use mathlib.Core.Path.{ap}
 use Rattle.chunk.specs.Writes.{writtenValues}
 use borrow.Author.Needs.{needs}
-use Rattle.symphedra.proofs.writers.count_of.Statement.{statement}
-use Rattle.symphedra.proofs.writers.count_of.Tie as tie
+use Rattle.words.proofs.count_of.Statement.{statement}
+use Rattle.words.proofs.count_of.Tie as tie
 
 enum-known-answer : tie.Need-enum-known-answer
 enum-known-answer c = search needs
