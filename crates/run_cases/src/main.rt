@@ -6,10 +6,10 @@
 ghost use Prim.Native.Nat.{_+_, _≤_};
 ghost use lib.ListN.{length};
 use chunk::Verdict;
+use samples::Samples;
 use script::Sign;
 use script::State;
 use upgrade::Target;
-use wave::Samples;
 
 fn text(s: &[u8]) {
     io::write_all(1, s);
@@ -91,7 +91,7 @@ fn walk(file: &[u8]) {
 
 fn count(file: &[u8]) {
     text(b"; count");
-    match wave::sample_count(file) {
+    match samples::sample_count(file) {
         Samples::Count(n) => next(n),
         Samples::None => text(b" none"),
         Samples::Refused(r) => {

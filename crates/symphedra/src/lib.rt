@@ -4,8 +4,8 @@
 // answer in are too few, that is 15, ahead of everything else, and no word changes.
 pub mod writers;
 
+use samples::Samples;
 use upgrade::Target;
-use wave::Samples;
 ghost use mathlib.Core.Path.{_≡_};
 ghost use lib.Seq.{sets};
 ghost use Rattle.chunk.specs.Refusals.{verdictNumber, verdictOf};
@@ -13,7 +13,8 @@ ghost use Rattle.chunk.specs.Tables.{tabled, WORDS};
 ghost use Rattle.fmt.specs.Formats.{formatIn, readAs as fmtRead, fmtNumber, fmtValues};
 ghost use Rattle.bext.specs.Records.{bextIn, readAs as bextRead, flagOf, bextNumber, bextValues};
 ghost use Rattle.chna.specs.Records.{chnaIn, readAs as chnaRead, chnaNumber, chnaValues};
-ghost use Rattle.wave.specs.Scans.{scan, rowsOf, walk32, samplesOf, samplesNumber, samplesValues};
+ghost use Rattle.wave.specs.Scans.{scan, rowsOf, walk32};
+ghost use Rattle.samples.specs.Counts.{samplesOf, samplesNumber, samplesValues};
 ghost use Rattle.symphedra.specs.Exports.{Answers, Upgrades, rf64, bw64};
 
 // The table of a file's chunks, or its refusal and no chunk.
@@ -40,7 +41,7 @@ pub extern "C" fn symphedra_sample_count(file: &[u8], out: &mut [u64]) -> u32
     if out.len() < 2 {
         return 15;
     }
-    match wave::sample_count(file) {
+    match samples::sample_count(file) {
         Samples::Count(n) => {
             out[0] = 1;
             out[1] = n;

@@ -29,12 +29,13 @@ use Rattle.form.proofs.Heads.{Opened, head-wide, rules-ds64, form-ones}
 use Rattle.truesize.specs.Sizes.{trueSize, entriesOf}
 use Rattle.truesize.proofs.Sizes.{true-own, true-ds64, true-data, own-true, riff-own}
 use Rattle.fmt.specs.declared.Format.{Format}
-use Rattle.wave.specs.Scans.{Scan, scan, payload, judged, factCount, samplesIn, samplesOf, walk32}
-use Rattle.wave.specs.declared.Samples.the-variants as samples
+use Rattle.wave.specs.Scans.{Scan, scan, payload, judged, walk32}
+use Rattle.samples.specs.Counts.{factCount, samplesIn, samplesOf}
+use Rattle.samples.specs.declared.Samples.the-variants as samples
 use Rattle.wave.specs.Tables.{ownField}
 use Rattle.wave.specs.Demand3.{Sized}
 use Rattle.wave.proofs.Scanned.{scanned-scan}
-use Rattle.wave.proofs.Counts.{fact-riff, fact-bw64, fact-third, samples-none, samples-fact, samples-given}
+use Rattle.samples.proofs.Counts.{fact-riff, fact-bw64, fact-third, samples-none, samples-fact, samples-given}
 use Rattle.wave.proofs.FirstHalf.{first-half}
 use Rattle.upgrade.specs.declared.Target.{Target}
 use Rattle.upgrade.specs.declared.Target.the-variants as target

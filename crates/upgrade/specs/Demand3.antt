@@ -20,7 +20,8 @@ use Rattle.chunk.specs.Tables.{find}
 use Rattle.form.specs.declared.Form as form
 use Rattle.form.specs.declared.Form.the-variants as form-variants
 use Rattle.form.specs.Forms.{LEAST}
-use Rattle.wave.specs.Scans.{Scan, scan, payload, samplesOf, walk32}
+use Rattle.wave.specs.Scans.{Scan, scan, payload, walk32}
+use Rattle.samples.specs.Counts.{samplesOf}
 use Rattle.wave.specs.Demand3.{FirstHalf}
 use Rattle.upgrade.specs.declared.Target.{Target}
 use Rattle.upgrade.specs.declared.Target.the-variants.{Rf64, Bw64}

@@ -14,14 +14,11 @@ use Rattle.chunk.specs.declared.Refusal.the-variants.{RaggedAudio}
 use Rattle.chunk.specs.declared.Verdict.the-variants.{Accepted, Refused}
 use Rattle.chunk.specs.Refusals.{Answer, refused, given, andThen}
 use Rattle.chunk.specs.Names.{FMT, DATA, FACT}
-use Rattle.chunk.specs.Fields.{ONES}
 use Rattle.chunk.specs.Tables.{count, find}
 use Rattle.chunk.specs.Walks.{past}
-use Rattle.chunk.proofs.Checks.{picked, pick-false, check-true, check-false, andThen-at, andThen-refused}
+use Rattle.chunk.proofs.Checks.{picked, check-true, check-false, andThen-at, andThen-refused}
 use Rattle.chunk.proofs.Laid.{laid-lies}
 use Rattle.chunk.proofs.Finds.{found}
-use Rattle.form.specs.declared.Form.{Form}
-use Rattle.form.specs.declared.Form.the-variants.{Riff, Rf64, Bw64}
 use Rattle.fmt.specs.declared.Format.{Format}
 use Rattle.fmt.specs.declared.Reading.the-variants as reading
 use Rattle.fmt.specs.Formats.{formatIn, readAs}
@@ -32,7 +29,7 @@ use Rattle.listing.specs.declared.Listed.the-variants as listed
 use Rattle.wave.specs.declared.judgement.Accepted as accepted
 use Rattle.wave.specs.declared.judgement.Examined.the-variants as examined
 use Rattle.listing.specs.Listings.{Listing, listing}
-use Rattle.wave.specs.Scans.{payload, wholeBlocks, judged, Scan, scan, factCount}
+use Rattle.wave.specs.Scans.{payload, wholeBlocks, judged, Scan, scan}
 use Rattle.listing.specs.Contracts.{payloadOf, factIn, keptOf}
 use Rattle.wave.specs.Contracts.{FmtFits, judgedAs, judgeOf, examinedAs, acceptedOf}
 use Rattle.listing.proofs.Checked.{listing-checked}
@@ -174,10 +171,3 @@ fact-at s a p e q =
     let l = scan-scanned s a e .listed in
     let y = laid-lies (l .laid) (found FACT (a .rows) (omega (arith, n)) .mem) in
     record { there = n; place = t .1; inside = omega (arith, t .1, y .ends, l .chunked .factHolds n) }
-
--- a field that isn't all ones is the sample count in every form
-pub fact-own : (f : Form) (third own : ℕ) → (own ≡ ONES → ⊥) → factCount f third own ≡ own
-unfolding factCount
-fact-own Riff third own n = refl
-fact-own Rf64 third own n = pick-false _ _ _ (ne-eqb own ONES n)
-fact-own Bw64 third own n = refl

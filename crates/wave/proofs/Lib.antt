@@ -1,5 +1,4 @@
 pub mod AcceptsExactly
-pub mod Counts
 pub mod Ds64Sizes
 pub mod Ends
 pub mod FirstHalf

@@ -4,7 +4,7 @@ use mathlib.Core.Path.{_≡_}
 use mathlib.Core.List.{List, [], _∷_}
 use lib.ListN.{length, set}
 use lib.Seq.{sets}
-use Rattle.le.specs.Number.{number, field}
+use Rattle.le.specs.Number.{field}
 use Rattle.chunk.specs.declared.Entry.{Entry}
 use Rattle.chunk.specs.declared.Verdict.{Verdict}
 use Rattle.chunk.specs.declared.Verdict.the-variants as verdict
@@ -17,15 +17,13 @@ use Rattle.form.specs.declared.Head.{Head}
 use Rattle.form.specs.Contracts.{placeOf}
 use Rattle.truesize.specs.Contracts.{EntriesFit}
 use Rattle.fmt.specs.declared.Format.{Format}
-use Rattle.wave.specs.declared.Samples.{Samples}
-use Rattle.wave.specs.declared.Samples.the-variants as samples
 use Rattle.listing.specs.declared.Listing as code
 use Rattle.wave.specs.declared.judgement.Accepted.{Accepted}
 use Rattle.wave.specs.declared.judgement.Examined.{Examined}
 use Rattle.wave.specs.declared.judgement.Examined.the-variants as examined
 use Rattle.listing.specs.Listings.{headers}
 use Rattle.listing.specs.Contracts.{payloadOf, rule, factIn}
-use Rattle.wave.specs.Scans.{Scan, judged, factCount}
+use Rattle.wave.specs.Scans.{Scan, judged}
 
 -- ---- the judgement
 
@@ -57,10 +55,6 @@ acceptedOf s a =
 unfoldable pub examinedAs : List ℕ → Answer Scan → Examined
 examinedAs s (refused r) = examined.Refused r
 examinedAs s (given a) = examined.Accepted (acceptedOf s a)
-
--- the sample count of a file with fact's payload at a place
-unfoldable pub countAt : Head → ℕ → List ℕ → Samples
-countAt h place s = samples.Count (factCount (h .form) (h .ds64 .third) (number 4 place s))
 
 -- ---- rows into words
 

@@ -1,27 +1,21 @@
 -- Document 01, "Refusal numbers" and "The 32-bit walk": the scan as a listing (checks 1 to 10) and a judgement (11 and
--- 12), the sample count, and the 32-bit walk.
+-- 12), and the 32-bit walk.
 use Prim.Native.Nat.{ℕ, _%_}
-use mathlib.Core.List.{List, [], _∷_}
+use mathlib.Core.List.{List, []}
 use lib.Dec.{eqb}
-use Rattle.le.specs.Number.{number, field}
-use Rattle.le.specs.Choice.{pick}
+use Rattle.le.specs.Number.{field}
 use Rattle.chunk.specs.declared.Entry.{Entry}
 use Rattle.chunk.specs.declared.Refusal.the-variants.{RaggedAudio}
 use Rattle.chunk.specs.declared.Verdict.the-variants.{Refused}
-use Rattle.chunk.specs.Refusals.{refusalNumber, Answer, refused, given, check, andThen}
-use Rattle.chunk.specs.Names.{FMT, DATA, FACT}
-use Rattle.chunk.specs.Fields.{ONES}
-use Rattle.chunk.specs.Tables.{count, find, LIMIT}
+use Rattle.chunk.specs.Refusals.{Answer, refused, given, check, andThen}
+use Rattle.chunk.specs.Names.{FMT, DATA}
+use Rattle.chunk.specs.Tables.{find, LIMIT}
 use Rattle.chunk.specs.Walks.{Walked, walk, ownSize}
-use Rattle.form.specs.declared.Form.{Form}
-use Rattle.form.specs.declared.Form.the-variants.{Riff, Rf64, Bw64}
 use Rattle.form.specs.declared.Head.{Head}
 use Rattle.form.specs.Forms.{openFor32}
 use Rattle.listing.specs.Listings.{listing}
 use Rattle.fmt.specs.declared.Format.{Format}
 use Rattle.fmt.specs.Formats.{formatIn}
-use Rattle.wave.specs.declared.Samples.{Samples}
-use Rattle.wave.specs.declared.Samples.the-variants as samples
 
 -- ---- the judgement: checks 11 and 12
 
@@ -58,41 +52,6 @@ scan s =
 unfoldable pub rowsOf : Answer Scan → List Entry
 rowsOf (refused r) = []
 rowsOf (given a) = a .rows
-
--- ---- the sample count
-
--- "the first 32 bits of fact, save that in RF64 all ones there means the third ds64 number"
-unfoldable pub factCount : Form → ℕ → ℕ → ℕ
-unfolding pick
-factCount Riff third own = own
-factCount Rf64 third own = pick (eqb own ONES) third own
-factCount Bw64 third own = own
-
--- "none without fact"
-unfoldable pub samplesIn : Scan → List ℕ → Samples
-unfolding pick
-samplesIn a s =
-    pick (eqb (count FACT (a .rows)) 0) samples.None
-    (samples.Count (factCount (a .head .form) (a .head .ds64 .third) (number 4 (find FACT (a .rows) .place) s)))
-
--- "asked of a file with the scan's refusals"
-unfoldable pub samplesAs : Answer Scan → List ℕ → Samples
-samplesAs (refused r) s = samples.Refused r
-samplesAs (given a) s = samplesIn a s
-
-unfoldable pub samplesOf : List ℕ → Samples
-samplesOf s = samplesAs (scan s) s
-
--- the number of this answer, 0 where nothing is refused, and its values: 1 and the count, or two zeros
-unfoldable pub samplesNumber : Samples → ℕ
-samplesNumber (samples.Count n) = 0
-samplesNumber samples.None = 0
-samplesNumber (samples.Refused r) = refusalNumber r
-
-unfoldable pub samplesValues : Samples → List ℕ
-samplesValues (samples.Count n) = 1 ∷ n ∷ []
-samplesValues samples.None = 0 ∷ 0 ∷ []
-samplesValues (samples.Refused r) = 0 ∷ 0 ∷ []
 
 -- ---- the 32-bit walk
 

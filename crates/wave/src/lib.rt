@@ -1,38 +1,21 @@
-// The whole file: the scan, the sample count and the 32-bit walk.
+// The whole file: the scan and the 32-bit walk.
 //
-// Each comes twice where it gives a table: once by value, and once into words that the caller lends, laid out as
-// chunk::Table has them. Nothing is asked of the bytes or of the words.
+// Each comes twice: once by value, and once into words that the caller lends, laid out as chunk::Table has them. Nothing
+// is asked of the bytes or of the words.
 pub mod judgement;
 mod rows;
 
 use chunk::Refusal;
 use chunk::Table;
 use chunk::Verdict;
-use form::Form;
-use form::Head;
 use judgement::Examined;
-use listing::Fact;
 ghost use mathlib.Core.Path.{_≡_};
-ghost use Prim.Native.Nat.{_+_, _≤_};
-ghost use lib.ListN.{length};
-ghost use Rattle.wave.specs.Scans.{samplesOf};
 ghost use Rattle.wave.specs.Words.{ScanDone, WalkDone, scanTable, walkTable};
-ghost use Rattle.wave.specs.Contracts.{countAt};
 
 // A table, and how the operation that made it ended.
 pub struct Tabled {
     pub table: Table,
     pub verdict: Verdict,
-}
-
-// What the question for the sample count is answered.
-pub enum Samples {
-    // The number that fact, or RF64's ds64, gives.
-    Count(u64),
-    // The file has no fact.
-    None,
-    // The scan's refusal.
-    Refused(Refusal),
 }
 
 // Scans a file into the words of a table. Words past the last chunk stay as they were, and all of them where there are
@@ -95,38 +78,5 @@ pub fn walk32(file: &[u8]) -> Tabled
     Tabled {
         table: Table { words },
         verdict,
-    }
-}
-
-// The sample count of a file whose fact payload starts at a place.
-fn fact_count(file: &[u8], head: Head, place: u64) -> Samples
-    requires { ⌜ place + 4 ≤ length (now file) ⌝ }
-    ensures { λ r. ⌜ r ≡ countAt head place (now (file .entry)) ⌝ }
-{
-    let own = le::read4(file, place as usize);
-    if own != chunk::ONES {
-        return Samples::Count(own);
-    }
-    let form = head.form;
-    match form {
-        Form::Rf64 => Samples::Count(head.ds64.third),
-        Form::Riff => Samples::Count(own),
-        Form::Bw64 => Samples::Count(own),
-    }
-}
-
-// The sample count of a file.
-pub fn sample_count(file: &[u8]) -> Samples
-    ensures { λ r. ⌜ r ≡ samplesOf (now (file .entry)) ⌝ }
-{
-    match judgement::examine(file) {
-        Examined::Refused(r) => Samples::Refused(r),
-        Examined::Accepted(a) => {
-            let fact = a.fact;
-            match fact {
-                Fact::At(place) => fact_count(file, a.head, place),
-                Fact::None => Samples::None,
-            }
-        }
     }
 }

@@ -33,10 +33,11 @@ use Rattle.fmt.specs.Writing.{formatBytes}
 use Rattle.fmt.proofs.Payloads.{out-of}
 use Rattle.fmt.proofs.RoundTrip.{reads-back}
 use Rattle.chna.specs.Records.{padsZeroed}
-use Rattle.wave.specs.declared.Samples.the-variants as samples
-use Rattle.wave.specs.Scans.{payload, wholeBlocks, judged, Scan, scan, samplesOf, walkFrom, walk32}
+use Rattle.samples.specs.declared.Samples.the-variants as samples
+use Rattle.wave.specs.Scans.{payload, wholeBlocks, judged, Scan, scan, walkFrom, walk32}
+use Rattle.samples.specs.Counts.{samplesOf}
 use Rattle.wave.proofs.Scanned.{scanned-scan}
-use Rattle.wave.proofs.Counts.{samples-none, samples-given}
+use Rattle.samples.proofs.Counts.{samples-none, samples-given}
 use Rattle.writer.specs.Files.{chunkWith, chunkBytes, optional, ownField, bodyBytes, formSizeFor, fileBytes, inputGood, sizesGood, fileOut, chunkSize, optionalSize}
 use Rattle.writer.specs.Contracts.{fileSize}
 use Rattle.writer.specs.WayBack.{entry, firstName, tableFor}

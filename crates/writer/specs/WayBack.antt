@@ -19,8 +19,9 @@ use Rattle.fmt.specs.declared.Format.{Format}
 use Rattle.fmt.specs.Formats.{formatIn}
 use Rattle.bext.specs.Records.{bextIn}
 use Rattle.chna.specs.Records.{chnaIn, padsZeroed}
-use Rattle.wave.specs.declared.Samples.the-variants as samples
-use Rattle.wave.specs.Scans.{Scan, scan, payload, samplesOf, walk32}
+use Rattle.samples.specs.declared.Samples.the-variants as samples
+use Rattle.wave.specs.Scans.{Scan, scan, payload, walk32}
+use Rattle.samples.specs.Counts.{samplesOf}
 use Rattle.upgrade.specs.declared.Target.{Target}
 use Rattle.upgrade.specs.Upgrades.{upgraded}
 use Rattle.upgrade.specs.Demand3.{targetForm}

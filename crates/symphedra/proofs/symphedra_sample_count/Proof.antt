@@ -2,8 +2,8 @@
 -- Assumes nothing.
 use mathlib.Core.Path.{sym, _∙_, ap}
 use lib.Seq.{sets}
-use Rattle.wave.specs.declared.Samples.{Samples}
-use Rattle.wave.specs.Scans.{samplesNumber, samplesValues}
+use Rattle.samples.specs.declared.Samples.{Samples}
+use Rattle.samples.specs.Counts.{samplesNumber, samplesValues}
 use Rattle.symphedra.proofs.Answered.{short, answered}
 use borrow.Author.Needs.{needs}
 use Rattle.symphedra.proofs.symphedra_sample_count.Statement.{statement}

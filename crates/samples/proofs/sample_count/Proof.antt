@@ -1,14 +1,14 @@
--- `wave::sample_count` meets its contract: a law for each thing that the scan may know of fact.
+-- `samples::sample_count` meets its contract: a law for each thing that the scan may know of fact.
 -- Assumes nothing.
 use mathlib.Core.Path.{sym, _∙_, ap₂}
 use Prim.Native.Nat.{ℕ}
 use borrow.Author.Needs.{needs}
 use Rattle.form.specs.declared.Head.{Head}
-use Rattle.wave.specs.Contracts.{countAt}
-use Rattle.wave.proofs.Counts.{samples-none, samples-fact, samples-given, samples-refused}
+use Rattle.samples.specs.Contracts.{countAt}
+use Rattle.samples.proofs.Counts.{samples-none, samples-fact, samples-given, samples-refused}
 use Rattle.wave.proofs.Judgements.{examined-refused, examined-accepted, fact-at, fact-none}
-use Rattle.wave.proofs.sample_count.Statement.{statement}
-use Rattle.wave.proofs.sample_count.Tie as tie
+use Rattle.samples.proofs.sample_count.Statement.{statement}
+use Rattle.samples.proofs.sample_count.Tie as tie
 
 examine-requires : tie.Need-examine-requires
 examine-requires c κs = search needs

@@ -13,9 +13,11 @@ use Rattle.chunk.specs.Names.{FACT}
 use Rattle.chunk.specs.Fields.{ONES}
 use Rattle.chunk.specs.Tables.{count, find}
 use Rattle.chunk.proofs.Checks.{pick-true, pick-false}
+use Rattle.form.specs.declared.Form.{Form}
 use Rattle.form.specs.declared.Form.the-variants.{Riff, Rf64, Bw64}
-use Rattle.wave.specs.declared.Samples.the-variants as samples
-use Rattle.wave.specs.Scans.{Scan, scan, factCount, samplesIn, samplesAs, samplesOf}
+use Rattle.samples.specs.declared.Samples.the-variants as samples
+use Rattle.wave.specs.Scans.{Scan, scan}
+use Rattle.samples.specs.Counts.{factCount, samplesIn, samplesAs, samplesOf}
 
 -- ---- fact's number
 
@@ -35,6 +37,13 @@ fact-rf64 third own h = pick-false (eqb own ONES) _ _ (ne-eqb own ONES h)
 pub fact-third : (third own : ℕ) → own ≡ ONES → factCount Rf64 third own ≡ third
 unfolding factCount
 fact-third third own h = pick-true (eqb own ONES) _ _ (eq-eqb own ONES h)
+
+-- a field that isn't all ones is the sample count in every form
+pub fact-own : (f : Form) (third own : ℕ) → (own ≡ ONES → ⊥) → factCount f third own ≡ own
+unfolding factCount
+fact-own Riff third own n = refl
+fact-own Rf64 third own n = pick-false _ _ _ (ne-eqb own ONES n)
+fact-own Bw64 third own n = refl
 
 -- ---- the question
 

@@ -1,16 +1,15 @@
--- `wave::fact_count` meets its contract: the field and the form pick the case.
+-- `samples::fact_count` meets its contract: the field and the form pick the case.
 -- Assumes nothing.
 use mathlib.Core.Path.{sym, _∙_, ap}
 use borrow.Author.Needs.{needs}
 use Rattle.le.specs.Number.{number}
 use Rattle.form.specs.declared.Form.{Form}
-use Rattle.wave.specs.declared.Samples.the-variants as samples
-use Rattle.wave.specs.Scans.{factCount}
-use Rattle.wave.specs.Contracts.{countAt}
-use Rattle.wave.proofs.Counts.{fact-third}
-use Rattle.wave.proofs.Judgements.{fact-own}
-use Rattle.wave.proofs.fact_count.Statement.{statement}
-use Rattle.wave.proofs.fact_count.Tie as tie
+use Rattle.samples.specs.declared.Samples.the-variants as samples
+use Rattle.samples.specs.Counts.{factCount}
+use Rattle.samples.specs.Contracts.{countAt}
+use Rattle.samples.proofs.Counts.{fact-own, fact-third}
+use Rattle.samples.proofs.fact_count.Statement.{statement}
+use Rattle.samples.proofs.fact_count.Tie as tie
 
 read4-requires : tie.Need-read4-requires
 read4-requires c κs = search needs
