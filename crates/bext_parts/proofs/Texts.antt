@@ -58,7 +58,7 @@ stopped : {A : Type 0} (n : ℕ) → 0 ≡ suc n → A
 stopped n e = absurd (omega arith)
 
 -- bytes none of which is zero are a text as they stand
-pub text-all : (t : List ℕ) → length (textOf t) ≡ length t → textOf t ≡ t
+text-all : (t : List ℕ) → length (textOf t) ≡ length t → textOf t ≡ t
 unfolding textOf
 text-all [] e = refl
 text-all (b ∷ t) e = which (eqb b 0) (text-all t) e
@@ -80,7 +80,7 @@ text-again (b ∷ s) = which (eqb b 0) refl (text-again s)
     which false e h = rw e (ap suc h)
 
 -- a text with zeros after it
-pub text-padded : (k : ℕ) (t : List ℕ) → length (textOf t) ≡ length t → textOf (t ++ replicate k 0) ≡ t
+text-padded : (k : ℕ) (t : List ℕ) → length (textOf t) ≡ length t → textOf (t ++ replicate k 0) ≡ t
 unfolding textOf
 text-padded zero [] e = refl
 text-padded (suc k) [] e = refl
@@ -92,7 +92,7 @@ text-padded k (b ∷ t) e = which (eqb b 0) (text-padded k t) e
     which false h e = ap (λ l. b ∷ l) (h (omega arith))
 
 -- bytes are their text and what stands behind it
-pub text-then : (s : List ℕ) → textOf s ++ drop (length (textOf s)) s ≡ s
+text-then : (s : List ℕ) → textOf s ++ drop (length (textOf s)) s ≡ s
 unfolding textOf
 text-then [] = refl
 text-then (b ∷ s) = which (eqb b 0) (text-then s)

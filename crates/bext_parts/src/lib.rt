@@ -123,7 +123,7 @@ fn time_good(t: &[u8]) -> bool
         && two_digits(t, 6, 0, 59)
 }
 
-// The date in these bytes, which hold none where they are all zero.
+// The date in these bytes: none where they are all zero, else the first 10 are judged; fewer are bad.
 pub fn date(d: &[u8]) -> Part
     ensures { λ r. ⌜ r ≡ partOf (allZero (now (d .entry)) || dateGood (now (d .entry))) (length (setOf (now (d .entry)))) ⌝ }
 {
@@ -139,7 +139,7 @@ pub fn date(d: &[u8]) -> Part
     Part::Length(d.len() as u64)
 }
 
-// The time in these bytes, which hold none where they are all zero.
+// The time in these bytes: none where they are all zero, else the first 8 are judged; fewer are bad.
 pub fn time(t: &[u8]) -> Part
     ensures { λ r. ⌜ r ≡ partOf (allZero (now (t .entry)) || timeGood (now (t .entry))) (length (setOf (now (t .entry)))) ⌝ }
 {

@@ -165,7 +165,7 @@ fits-text (p ∷ ps) (b ∷ l) e n h =
     ∙ digits b p (value l) (value ps) (h 0) (ltb-true p 256 (second (not (eqb p 0x78)) (ltb p 256) char))
 
 -- at a place: the number there
-pub text-at : (ps : List ℕ) (at : ℕ) (s : List ℕ) → plain ps ≡ true → Bytes s → at + length ps ≤ length s
+text-at : (ps : List ℕ) (at : ℕ) (s : List ℕ) → plain ps ≡ true → Bytes s → at + length ps ≤ length s
     → fits ps (field (length ps) at s) ≡ eqb (number (length ps) at s) (value ps)
 unfolding number
 text-at ps at s e h k =

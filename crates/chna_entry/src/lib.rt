@@ -162,7 +162,7 @@ pub fn is_unused(e: &[u8]) -> bool
     le::read8(e, 32) == 0
 }
 
-// The rules of a used entry, of any bytes at all: all but the pad have to be there.
+// The rules of a used entry, of any bytes at all: the first 39 are judged, and fewer are no entry.
 pub fn used_good(e: &[u8], channels: u64) -> bool
     ensures { λ r. ⌜ r ≡ usedGood channels (usedIn (now (e .entry))) ⌝ }
 {

@@ -30,10 +30,6 @@ pub fact-bw64 : (third own : ℕ) → factCount Bw64 third own ≡ own
 unfolding factCount
 fact-bw64 third own = refl
 
-pub fact-rf64 : (third own : ℕ) → (own ≡ ONES → ⊥) → factCount Rf64 third own ≡ own
-unfolding factCount
-fact-rf64 third own h = pick-false (eqb own ONES) _ _ (ne-eqb own ONES h)
-
 pub fact-third : (third own : ℕ) → own ≡ ONES → factCount Rf64 third own ≡ third
 unfolding factCount
 fact-third third own h = pick-true (eqb own ONES) _ _ (eq-eqb own ONES h)
