@@ -1,6 +1,7 @@
 -- What a writer answers and leaves: "Bytes of any output past what is written stay untouched", and after a refusal all of
 -- them (the customer's demand 1).
 use Prim.Native.Nat.{ℕ}
+use mathlib.Core.Path.{_≡_}
 use mathlib.Core.List.{List, [], _∷_, _++_}
 use lib.ListN.{length, drop}
 use lib.Dec.{leb}
@@ -32,3 +33,9 @@ writtenValues (written.Refused r) = 0 ∷ []
 unfoldable pub outputOf : List ℕ → Answer (List ℕ) → List ℕ
 outputOf out (refused r) = out
 outputOf out (given bs) = bs ++ drop (length bs) out
+
+-- What a writer of these bytes, or of their refusal, answers and leaves in its output: the refusal, or 15 where the output is
+-- too short, and every byte as it was; or their number, and the bytes at its start.
+pub record Writes (a : Answer (List ℕ)) (entry exit : List ℕ) (r : Written) : Type 0 where
+  pub answers : r ≡ writtenOf (fitting entry a)
+  pub leaves : exit ≡ outputOf entry (fitting entry a)
