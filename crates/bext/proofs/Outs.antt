@@ -1,22 +1,19 @@
--- A record that could have been read: its rules one by one, that its parts fit their places, and what the writer answers
--- and leaves for it.
+-- A record that could have been read: its rules one by one, that its parts fit their places, and the payload to write.
 -- Assumes nothing.
 use mathlib.Core.Path.{_≡_}
 use mathlib.Core.Bool.{Bool, true, false, _&&_}
-use mathlib.Core.List.{List, _++_}
-use Prim.Native.Nat.{ℕ, _^_, _≤_, _<_}
-use borrow.Author.Tests.{eqb-true, le-leb, lt-leb}
-use lib.ListN.{length, drop}
+use Prim.Native.Nat.{ℕ, _^_, _≤_}
+use borrow.Author.Tests.{eqb-true}
+use lib.ListN.{length}
 use lib.Dec.{eqb, ltb}
-use Rattle.chunk.specs.declared.Refusal.the-variants.{BadRecord, ShortOutput}
-use Rattle.chunk.specs.declared.Written.the-variants as written
-use Rattle.chunk.specs.Writes.{fitting, writtenOf, outputOf}
-use Rattle.chunk.proofs.Checks.{and-true}
+use Rattle.chunk.specs.declared.Refusal.the-variants.{BadRecord}
+use Rattle.chunk.specs.Refusals.{refused, given}
+use Rattle.chunk.proofs.Checks.{and-true, check-true, check-false}
 use Rattle.bext_parts.specs.Parts.{textGood, dateGood, timeGood, restGood, textGiven, dateGiven, timeGiven, restGiven}
 use Rattle.bext_parts.proofs.Texts.{text-fits}
 use Rattle.bext_parts.proofs.Stamps.{length-given}
 use Rattle.bext.specs.Records.{Whole}
-use Rattle.bext.specs.Writing.{writable, laid, bextOut, Writes}
+use Rattle.bext.specs.Writing.{writable, laid, bextOut}
 use Rattle.bext.specs.Contracts.{Fitting}
 
 -- ---- the rules, as far as each of them
@@ -95,17 +92,12 @@ good-fits w g =
       rest-fits = eqb-true (length (w .rest)) 254 (and-true (eqb (length (w .rest)) 254) (restGood (w .version) (w .rest)) (g .rest) .0);
     }
 
--- ---- the writer's answers
+-- ---- the payload to write
 
-pub refuses : (w : Whole) (out : List ℕ) → writable w ≡ false → Writes w out out (written.Refused BadRecord)
-unfolding bextOut fitting writtenOf outputOf
-refuses w out e = record { answers = rw e; leaves = rw e }
+pub out-refused : (w : Whole) → writable w ≡ false → bextOut w ≡ refused BadRecord
+unfolding bextOut
+out-refused w e = check-false (writable w) BadRecord (given (laid w)) e
 
-pub lacks-room : (w : Whole) (out : List ℕ) → writable w ≡ true → length out < length (laid w) → Writes w out out (written.Refused ShortOutput)
-unfolding bextOut fitting writtenOf outputOf
-lacks-room w out e h = record { answers = rw (e, lt-leb (length (laid w)) (length out) h); leaves = rw (e, lt-leb (length (laid w)) (length out) h) }
-
-pub writes : (w : Whole) (out : List ℕ) → writable w ≡ true → length (laid w) ≤ length out
-    → Writes w out (laid w ++ drop (length (laid w)) out) (written.Bytes (length (laid w)))
-unfolding bextOut fitting writtenOf outputOf
-writes w out e h = record { answers = rw (e, le-leb (length (laid w)) (length out) h); leaves = rw (e, le-leb (length (laid w)) (length out) h) }
+pub out-given : (w : Whole) → writable w ≡ true → bextOut w ≡ given (laid w)
+unfolding bextOut
+out-given w e = check-true (writable w) BadRecord (given (laid w)) e

@@ -2,7 +2,7 @@
 -- same bytes, and so an accepted payload has one record, and a record one payload.
 -- Assumes nothing.
 use mathlib.Core.Path.{_≡_, refl, sym, ap, ap₂, _∙_}
-use mathlib.Core.Bool.{Bool, true, false, _||_}
+use mathlib.Core.Bool.{Bool, true, _||_}
 use mathlib.Core.List.{List, _∷_, _++_, append-assoc}
 use Prim.Native.Nat.{ℕ, _+_, _^_, _≤_}
 use native.Mathlib.Omega.{arith}
@@ -11,18 +11,19 @@ use lib.ListN.{length, take, drop, take-append-drop}
 use lib.Seq.{take-at, drop-at, drop-drop, take-add}
 use lib.Dec.{eqb, leb, lit≤}
 use Rattle.le.specs.Number.{Bytes, bytes, field, number, value}
-use Rattle.le.specs.Choice.{pick, every}
+use Rattle.le.specs.Choice.{every}
 use Rattle.le.proofs.Laws.{value-bytes, bytes-number, bytes-length, field-length, number-bound}
-use Rattle.chunk.specs.declared.Refusal.the-variants.{BadBext, BadRecord, ShortOutput}
+use Rattle.chunk.specs.declared.Refusal.the-variants.{BadBext, BadRecord}
 use Rattle.chunk.specs.declared.Written.the-variants as written
-use Rattle.chunk.specs.Refusals.{Answer, given, refused}
-use Rattle.chunk.specs.Writes.{fitting, writtenOf, outputOf}
+use Rattle.chunk.specs.Refusals.{given}
+use Rattle.chunk.specs.Writes.{Writes}
+use Rattle.chunk.proofs.Outputs.{wrote}
 use Rattle.chunk.proofs.Checks.{given-inj, check-given, check-true, rule-and, and-true}
 use Rattle.bext_parts.specs.Parts.{allZero, textOf, textGood, dateGood, timeGood, restGood, textGiven, dateGiven, timeGiven, restGiven, padded}
 use Rattle.bext_parts.proofs.Texts.{text-short, text-again, text-whole, padded-text, padded-good, text-back}
 use Rattle.bext_parts.proofs.Stamps.{Back, Forth, back, forth, date-set, time-set}
 use Rattle.bext.specs.Records.{Whole, rulesOf, wholeIn, bextIn}
-use Rattle.bext.specs.Writing.{writable, laid, bextOut, Writes}
+use Rattle.bext.specs.Writing.{writable, laid, bextOut}
 use Rattle.bext.specs.Contracts.{Fitting}
 use Rattle.bext.proofs.Stores.{padded-length, laid-length, front1}
 use Rattle.bext.proofs.Outs.{Good, good, all-good, good-fits}
@@ -303,22 +304,6 @@ one-payload p q bp bq w e f = given-inj p q (sym (writes-back p bp w e) ∙ writ
 -- ---- what the writer leaves in its output
 
 -- the bytes that it says it wrote are a payload that reads back as the record given
-pub written-reads-back : (w : Whole) (entry exit : List ℕ) (n : ℕ) → Writes w entry exit (written.Bytes n) → bextIn (take n exit) ≡ given w
-unfolding fitting writtenOf outputOf
-written-reads-back w entry exit n wrote = which (bextOut w) refl (wrote .answers) (wrote .leaves)
-  where
-    roomy : (b : Bool) (p : List ℕ) → bextOut w ≡ given p
-        → written.Bytes n ≡ writtenOf (pick b (given p) (refused ShortOutput))
-        → exit ≡ outputOf entry (pick b (given p) (refused ShortOutput))
-        → bextIn (take n exit) ≡ given w
-    roomy true p e a l =
-        let k : n ≡ length p = cc in
-        rw (l, take-at p (drop (length p) entry) n (sym k)) (reads-back w p e)
-    roomy false p e a l = let z : _≡_ {A = ℕ} 0 1 = cc in absurd (omega arith)
-
-    which : (a : Answer (List ℕ)) → bextOut w ≡ a
-        → written.Bytes n ≡ writtenOf (fitting entry a)
-        → exit ≡ outputOf entry (fitting entry a)
-        → bextIn (take n exit) ≡ given w
-    which (refused r) e a l = let z : _≡_ {A = ℕ} 0 1 = cc in absurd (omega arith)
-    which (given p) e a l = roomy (leb (length p) (length entry)) p e a l
+pub written-reads-back : (w : Whole) (entry exit : List ℕ) (n : ℕ) → Writes (bextOut w) entry exit (written.Bytes n)
+    → bextIn (take n exit) ≡ given w
+written-reads-back w entry exit n wrote-it = reads-back w (take n exit) (wrote (bextOut w) entry exit n wrote-it .is-given)

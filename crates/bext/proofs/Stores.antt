@@ -32,10 +32,6 @@ zero-more s at i =
     puts-next s (replicate i 0) (0 ∷ []) at (at + i) (omega (arith, length-replicate {A = ℕ} i 0))
     ∙ ap (sets s at) (replicate-append-replicate i 1 0)
 
--- a run at the start, and what stands behind it
-pub puts-front : (s xs : List ℕ) → length xs ≤ length s → sets s 0 xs ≡ xs ++ drop (length xs) s
-puts-front s xs h = rw (sets-eq xs s 0 (omega arith), zero-add)
-
 pub padded-length : (n : ℕ) (t : List ℕ) → length t ≤ n → length (padded n t) ≡ n
 unfolding padded
 padded-length n t h = rw (length-append t (replicate (n - length t) 0), length-replicate {A = ℕ} (n - length t) 0) (omega arith)

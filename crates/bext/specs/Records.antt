@@ -68,14 +68,14 @@ bextIn p = check (every (rulesOf p)) BadBext (given (wholeIn p))
 unfoldable pub numbersOf : Whole → Bext
 numbersOf w =
     record {
-      description = length (w .description);
-      originator = length (w .originator);
-      reference = length (w .reference);
-      date = not (eqb (length (w .date)) 0);
-      time = not (eqb (length (w .time)) 0);
+      «description_len» = length (w .description);
+      «originator_len» = length (w .originator);
+      «reference_len» = length (w .reference);
+      «date_set» = not (eqb (length (w .date)) 0);
+      «time_set» = not (eqb (length (w .time)) 0);
       timeref = w .timeref;
       version = w .version;
-      history = length (textOf (w .history));
+      «history_len» = length (textOf (w .history));
     }
 
 -- what the reader answers
@@ -95,5 +95,5 @@ bextNumber (reading.Refused r) = refusalNumber r
 
 unfoldable pub bextValues : Reading → List ℕ
 bextValues (reading.Record b) =
-    b .description ∷ b .originator ∷ b .reference ∷ flagOf (b .date) ∷ flagOf (b .time) ∷ b .timeref ∷ b .version ∷ b .history ∷ []
+    b .«description_len» ∷ b .«originator_len» ∷ b .«reference_len» ∷ flagOf (b .«date_set») ∷ flagOf (b .«time_set») ∷ b .timeref ∷ b .version ∷ b .«history_len» ∷ []
 bextValues (reading.Refused r) = replicate 8 0

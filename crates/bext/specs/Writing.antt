@@ -1,14 +1,11 @@
 -- Document 01, "bext" (001 4.3): the payload of a record, or 16.
-use mathlib.Core.Path.{_≡_}
 use Prim.Native.Nat.{ℕ, _^_}
 use mathlib.Core.Bool.{Bool, _&&_}
 use mathlib.Core.List.{List, _++_}
 use lib.Dec.{ltb}
 use Rattle.le.specs.Number.{bytes}
 use Rattle.chunk.specs.declared.Refusal.the-variants.{BadRecord}
-use Rattle.chunk.specs.declared.Written.{Written}
 use Rattle.chunk.specs.Refusals.{Answer, given, check}
-use Rattle.chunk.specs.Writes.{fitting, writtenOf, outputOf}
 use Rattle.bext_parts.specs.Parts.{textGood, textGiven, dateGiven, timeGiven, restGiven, restOf, padded}
 use Rattle.bext.specs.Records.{Whole}
 
@@ -63,8 +60,3 @@ asked description originator reference date time timeref version rest history =
       rest = restOf rest;
       history = history;
     }
-
--- what the writer of a record answers and leaves in the output: 16, 15, or the payload at its start
-pub record Writes (w : Whole) (entry exit : List ℕ) (r : Written) : Type 0 where
-  pub answers : r ≡ writtenOf (fitting entry (bextOut w))
-  pub leaves : exit ≡ outputOf entry (fitting entry (bextOut w))

@@ -10,25 +10,24 @@ ghost use mathlib.Core.Path.{_≡_};
 ghost use Prim.Native.Nat.{_+_, _≤_};
 ghost use lib.ListN.{length, replicate};
 ghost use lib.Seq.{sets};
+ghost use Rattle.chunk.specs.Writes.{Writes};
 ghost use Rattle.bext_parts.specs.Parts.{padded};
 ghost use Rattle.bext.specs.Records.{bextIn, readAs};
-ghost use Rattle.bext.specs.Contracts.{Fitting};
-ghost use Rattle.bext.specs.Writing.{writable, asked, laid, Writes};
+ghost use Rattle.bext.specs.Contracts.{textsIn, stampsIn, restIn, Fitting};
+ghost use Rattle.bext.specs.Writing.{writable, asked, laid, bextOut};
 
 // A record by numbers.
 pub struct Bext {
-    // The lengths of the three texts.
-    pub description: u64,
-    pub originator: u64,
-    pub reference: u64,
-    // Whether date and time are set.
-    pub date: bool,
-    pub time: bool,
+    pub description_len: u64,
+    pub originator_len: u64,
+    pub reference_len: u64,
+    pub date_set: bool,
+    pub time_set: bool,
     // Samples since midnight.
     pub timeref: u64,
     pub version: u64,
-    // The length of the coding history's text.
-    pub history: u64,
+    // Of the coding history's text, without the zeros after it.
+    pub history_len: u64,
 }
 
 impl Bext {
@@ -57,6 +56,83 @@ pub enum Reading {
     Refused(Refusal),
 }
 
+// The lengths of the three texts.
+struct Texts {
+    description_len: u64,
+    originator_len: u64,
+    reference_len: u64,
+}
+
+// What stands ahead of the date.
+enum HasTexts {
+    Good(Texts),
+    // One of them breaks the rule of a text.
+    Bad,
+}
+
+// The three texts of a payload.
+fn read_texts(payload: &[u8]) -> HasTexts
+    requires { ⌜ 602 ≤ length (now payload) ⌝ }
+    ensures { λ r. ⌜ r ≡ textsIn (now (payload .entry)) ⌝ }
+{
+    let Part::Length(description_len) = bext_parts::text(&payload[0..Bext::ORIGINATOR]) else {
+        return HasTexts::Bad;
+    };
+    let Part::Length(originator_len) = bext_parts::text(&payload[Bext::ORIGINATOR..Bext::REFERENCE])
+    else {
+        return HasTexts::Bad;
+    };
+    let Part::Length(reference_len) = bext_parts::text(&payload[Bext::REFERENCE..Bext::DATE]) else {
+        return HasTexts::Bad;
+    };
+    HasTexts::Good(Texts {
+        description_len,
+        originator_len,
+        reference_len,
+    })
+}
+
+// Whether date and time are set.
+struct Stamps {
+    date_set: bool,
+    time_set: bool,
+}
+
+// What stands between the texts and the time reference.
+enum HasStamps {
+    Good(Stamps),
+    // One of them is neither set nor all zero.
+    Bad,
+}
+
+// Date and time of a payload.
+fn read_stamps(payload: &[u8]) -> HasStamps
+    requires { ⌜ 602 ≤ length (now payload) ⌝ }
+    ensures { λ r. ⌜ r ≡ stampsIn (now (payload .entry)) ⌝ }
+{
+    let Part::Length(date) = bext_parts::date(&payload[Bext::DATE..Bext::TIME]) else {
+        return HasStamps::Bad;
+    };
+    let Part::Length(time) = bext_parts::time(&payload[Bext::TIME..Bext::TIMEREF]) else {
+        return HasStamps::Bad;
+    };
+    HasStamps::Good(Stamps {
+        date_set: date != 0,
+        time_set: time != 0,
+    })
+}
+
+// What follows Version: how long the coding history's text is.
+fn read_rest(payload: &[u8], version: u64) -> Part
+    requires { ⌜ 602 ≤ length (now payload) ⌝ }
+    ensures { λ r. ⌜ r ≡ restIn version (now (payload .entry)) ⌝ }
+{
+    if !bext_parts::rest_good(version, &payload[Bext::REST..Bext::HISTORY]) {
+        return Part::Bad;
+    }
+    bext_parts::text(&payload[Bext::HISTORY..])
+}
+
 // The record of a payload, which may be any bytes at all.
 pub fn read(payload: &[u8]) -> Reading
     ensures { λ r. ⌜ r ≡ readAs (bextIn (now (payload .entry))) ⌝ }
@@ -64,38 +140,25 @@ pub fn read(payload: &[u8]) -> Reading
     if payload.len() < Bext::HISTORY {
         return Reading::Refused(Refusal::BadBext);
     }
-    let Part::Length(description) = bext_parts::text(&payload[0..Bext::ORIGINATOR]) else {
+    let HasTexts::Good(texts) = read_texts(payload) else {
         return Reading::Refused(Refusal::BadBext);
     };
-    let Part::Length(originator) = bext_parts::text(&payload[Bext::ORIGINATOR..Bext::REFERENCE])
-    else {
-        return Reading::Refused(Refusal::BadBext);
-    };
-    let Part::Length(reference) = bext_parts::text(&payload[Bext::REFERENCE..Bext::DATE]) else {
-        return Reading::Refused(Refusal::BadBext);
-    };
-    let Part::Length(date) = bext_parts::date(&payload[Bext::DATE..Bext::TIME]) else {
-        return Reading::Refused(Refusal::BadBext);
-    };
-    let Part::Length(time) = bext_parts::time(&payload[Bext::TIME..Bext::TIMEREF]) else {
+    let HasStamps::Good(stamps) = read_stamps(payload) else {
         return Reading::Refused(Refusal::BadBext);
     };
     let version = le::read2(payload, Bext::VERSION);
-    if !bext_parts::rest_good(version, &payload[Bext::REST..Bext::HISTORY]) {
-        return Reading::Refused(Refusal::BadBext);
-    }
-    let Part::Length(history) = bext_parts::text(&payload[Bext::HISTORY..]) else {
+    let Part::Length(history_len) = read_rest(payload, version) else {
         return Reading::Refused(Refusal::BadBext);
     };
     Reading::Record(Bext {
-        description,
-        originator,
-        reference,
-        date: date != 0,
-        time: time != 0,
+        description_len: texts.description_len,
+        originator_len: texts.originator_len,
+        reference_len: texts.reference_len,
+        date_set: stamps.date_set,
+        time_set: stamps.time_set,
         timeref: le::read8(payload, Bext::TIMEREF),
         version,
-        history,
+        history_len,
     })
 }
 
@@ -197,7 +260,7 @@ pub fn write(
     history: &[u8],
     out: &mut [u8],
 ) -> Written
-    ensures { λ r. ⌜ Writes (asked (now (description .entry)) (now (originator .entry)) (now (reference .entry)) (now (date .entry)) (now (time .entry)) timeref version (now (rest .entry)) (now (history .entry))) (now (out .entry)) (now (out .exit)) r ⌝ }
+    ensures { λ r. ⌜ Writes (bextOut (asked (now (description .entry)) (now (originator .entry)) (now (reference .entry)) (now (date .entry)) (now (time .entry)) timeref version (now (rest .entry)) (now (history .entry)))) (now (out .entry)) (now (out .exit)) r ⌝ }
 {
     if !record_good(
         description,

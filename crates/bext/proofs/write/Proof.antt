@@ -2,17 +2,18 @@
 -- its start.
 -- Assumes nothing.
 use mathlib.Core.Path.{_≡_, _∙_, ap, sym}
-use Prim.Native.Nat.{_+_, _^_, _≤_}
+use mathlib.Core.List.{_++_}
+use Prim.Native.Nat.{_+_, _^_}
 use native.Mathlib.Omega.{arith}
 use borrow.Author.Needs.{needs}
 use borrow.Author.Tests.{lt-ltb, not-true, not-false}
-use lib.ListN.{length}
-use Rattle.chunk.specs.declared.Written.the-variants as written
+use lib.ListN.{length, drop}
+use Rattle.chunk.proofs.Outputs.{puts-front, refuses, lacks-room, writes}
 use Rattle.bext_parts.specs.Parts.{restOf}
 use Rattle.bext.specs.Records.{Whole}
 use Rattle.bext.specs.Writing.{writable, asked, laid}
-use Rattle.bext.proofs.Stores.{puts-front, laid-length}
-use Rattle.bext.proofs.Outs.{good, good-fits, refuses, lacks-room, writes}
+use Rattle.bext.proofs.Stores.{laid-length}
+use Rattle.bext.proofs.Outs.{good, good-fits, out-refused, out-given}
 use Rattle.bext.proofs.write.Statement.{statement}
 use Rattle.bext.proofs.write.Tie as tie
 
@@ -46,7 +47,7 @@ record-good-requires c κs = search needs
 
 returns : tie.Need-returns
 unfolding asked
-returns c = refuses (whole (c .before .before .before .before .before .before .before .before .before .before)) (c .before .before .before .before .before .before .before .before .before .before .args .out .now) (sym (tested (c .before)) ∙ not-true _ (c .if1 .taken))
+returns c = refuses _ _ _ (out-refused (whole (c .before .before .before .before .before .before .before .before .before .before)) (sym (tested (c .before)) ∙ not-true _ (c .if1 .taken)))
 
 add-size : tie.Need-add-size
 add-size c = search needs
@@ -54,8 +55,7 @@ add-size c = search needs
 returns-2 : tie.Need-returns-2
 unfolding asked
 returns-2 c =
-    lacks-room (whole (c .before .before .before .before .before .before .before .before .before .before .before)) (c .before .before .before .before .before .before .before .before .before .before .before .args .out .now)
-    (sym (tested (c .before .before)) ∙ not-false _ (c .before .if1 .left))
+    lacks-room _ _ _ (out-given (whole (c .before .before .before .before .before .before .before .before .before .before .before)) (sym (tested (c .before .before)) ∙ not-false _ (c .before .if1 .left)))
     (omega (arith, size (c .before), c .if2 .taken))
 
 store-requires : tie.Need-store-requires
@@ -75,12 +75,10 @@ returns-3 c =
     let a = c .before .before .before .before .before .before .before .before .before .before .before .before .before .before .before in
     let w = whole a in
     let fits = size (c .before .before .before .before .before) in
-    let room : length (laid w) ≤ length (a .args .out .now) = omega (arith, fits, c .before .before .before .before .if2 .left) in
-    let wrote = writes w (a .args .out .now) (sym (tested (c .before .before .before .before .before .before)) ∙ not-false _ (c .before .before .before .before .before .if1 .left)) room in
-    record {
-      answers = ap written.Bytes (sym fits) ∙ wrote .answers;
-      leaves = c .before .before .store .ensures ∙ puts-front (a .args .out .now) (laid w) room ∙ wrote .leaves;
-    }
+    let room = c .before .before .before .before .if2 .left in
+    writes _ _ _ (out-given w (sym (tested (c .before .before .before .before .before .before)) ∙ not-false _ (c .before .before .before .before .before .if1 .left)))
+    _ _ (sym fits) room
+    (c .before .before .store .ensures ∙ puts-front (a .args .out .now) (laid w) (omega (arith, fits, room)) ∙ ap (λ n. laid w ++ drop n (a .args .out .now)) fits)
 
 pub write-spec : {M : Type 1} → statement M
 write-spec =
