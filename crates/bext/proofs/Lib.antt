@@ -3,3 +3,4 @@ pub mod Stores
 pub mod Outs
 pub mod RoundTrip
 pub mod Cases
+pub mod Held

@@ -3,11 +3,10 @@
 use mathlib.Core.Path.{_≡_, refl, sym, ap, _∙_}
 use mathlib.Core.List.{List, [], _∷_, _++_, append-nil}
 use Prim.Native.Nat.{ℕ, suc, _+_, _-_, _≤_, _<_}
-use native.Mathlib.Nat.{zero-add}
 use native.Mathlib.Omega.{arith}
 use native.Mathlib.Numerals.{add-one}
-use lib.ListN.{length, set, take, drop, getD, replicate, length-append, length-replicate, replicate-append-replicate}
-use lib.Seq.{sets, sets-eq, take-suc, length-take-le}
+use lib.ListN.{length, set, take, getD, replicate, length-append, length-replicate, replicate-append-replicate}
+use lib.Seq.{sets, take-suc, length-take-le}
 use lib.Dec.{eqb·suc-zero}
 use Rattle.le.specs.Number.{bytes}
 use Rattle.le.proofs.Laws.{sets-append, bytes-length}

@@ -1,4 +1,5 @@
 pub mod Records
 pub mod Writing
+pub mod Slices
 pub mod Contracts
 pub mod Cases

@@ -3,6 +3,8 @@
 // A payload has at least 602 bytes: Description 256, Originator 32, Reference 32, date 10, time 8, TimeReference 8,
 // Version 2, then 254 bytes, then the coding history to the end. The texts stay in the payload: the record says how long
 // each is.
+pub mod slices;
+
 use bext_parts::Part;
 use chunk::Refusal;
 use chunk::Written;

@@ -92,7 +92,7 @@ text-padded k (b ∷ t) e = which (eqb b 0) (text-padded k t) e
     which false h e = ap (λ l. b ∷ l) (h (omega arith))
 
 -- bytes are their text and what stands behind it
-text-then : (s : List ℕ) → textOf s ++ drop (length (textOf s)) s ≡ s
+pub text-then : (s : List ℕ) → textOf s ++ drop (length (textOf s)) s ≡ s
 unfolding textOf
 text-then [] = refl
 text-then (b ∷ s) = which (eqb b 0) (text-then s)

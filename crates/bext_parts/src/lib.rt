@@ -18,7 +18,7 @@ pub enum Part {
 }
 
 // How many bytes stand before the first zero.
-fn text_length(s: &[u8]) -> usize
+pub fn text_length(s: &[u8]) -> usize
     ensures { λ r. ⌜ r ≡ length (textOf (now (s .entry))) ⌝ }
 {
     let mut i = 0;
@@ -44,6 +44,13 @@ fn zero_from(s: &[u8], at: usize) -> bool
         i += 1;
     }
     true
+}
+
+// Whether these bytes are all zero.
+pub fn all_zero(s: &[u8]) -> bool
+    ensures { λ r. ⌜ r ≡ allZero (now (s .entry)) ⌝ }
+{
+    zero_from(s, 0)
 }
 
 // Whether these bytes are a text, and zeros after it.

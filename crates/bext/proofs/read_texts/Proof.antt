@@ -1,11 +1,8 @@
 -- `bext::read_texts` meets its contract: each text that breaks its rule is told, and where none does their lengths.
 -- Assumes nothing.
-use mathlib.Core.Path.{_≡_}
-use lib.ListN.{length}
 use borrow.Author.Needs.{needs}
 use Rattle.le.specs.Number.{field}
-use Rattle.bext_parts.specs.Parts.{textOf, textGood}
-use Rattle.bext_parts.proofs.Parts.{Kept, part-good, part-broken}
+use Rattle.bext_parts.proofs.Parts.{part-good, part-broken}
 use Rattle.bext.specs.Contracts.{textRules}
 use Rattle.bext.proofs.Answers.{text-broken, texts-kept}
 use Rattle.bext.proofs.read_texts.Statement.{statement}
