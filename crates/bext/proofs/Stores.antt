@@ -1,4 +1,4 @@
--- Bytes put at a place one after the other are the whole run put there.
+-- The parts of a payload, one after the other: how long each is, and where the next one starts.
 -- Assumes nothing.
 use mathlib.Core.Path.{_≡_, refl, sym, ap, _∙_}
 use mathlib.Core.List.{List, [], _∷_, _++_, append-nil}
@@ -14,22 +14,6 @@ use Rattle.bext_parts.specs.Parts.{restOf, padded}
 use Rattle.bext.specs.Records.{Whole}
 use Rattle.bext.specs.Writing.{laid}
 use Rattle.bext.specs.Contracts.{Fitting}
-
--- a run after a run
-pub puts-next : (s xs ys : List ℕ) (at n : ℕ) → n ≡ at + length xs → sets (sets s at xs) n ys ≡ sets s at (xs ++ ys)
-puts-next s xs ys at n e = ap (λ k. sets (sets s at xs) k ys) e ∙ sym (sets-append xs ys s at)
-
--- one byte more of a run
-pub put-more : (s t : List ℕ) (at i : ℕ) → i < length t → set (sets s at (take i t)) (at + i) (getD t i 0) ≡ sets s at (take (i + 1) t)
-put-more s t at i h =
-    puts-next s (take i t) (getD t i 0 ∷ []) at (at + i) (omega (arith, length-take-le i t (omega arith)))
-    ∙ ap (sets s at) (sym (take-suc t i 0 h) ∙ ap (λ k. take k t) (sym (add-one i)))
-
--- one zero more
-pub zero-more : (s : List ℕ) (at i : ℕ) → set (sets s at (replicate i 0)) (at + i) 0 ≡ sets s at (replicate (i + 1) 0)
-zero-more s at i =
-    puts-next s (replicate i 0) (0 ∷ []) at (at + i) (omega (arith, length-replicate {A = ℕ} i 0))
-    ∙ ap (sets s at) (replicate-append-replicate i 1 0)
 
 pub padded-length : (n : ℕ) (t : List ℕ) → length t ≤ n → length (padded n t) ≡ n
 unfolding padded

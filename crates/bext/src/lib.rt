@@ -34,21 +34,15 @@ pub struct Bext {
 
 impl Bext {
     // Where each part of a payload starts; Description starts it.
-    const ORIGINATOR: usize = 256;
-
-    const REFERENCE: usize = 288;
-
-    const DATE: usize = 320;
-
-    const TIME: usize = 330;
-
-    const TIMEREF: usize = 338;
-
-    const VERSION: usize = 346;
-
-    const REST: usize = 348;
-
-    const HISTORY: usize = 602;
+    pub const ORIGINATOR: usize = 256;
+    pub const REFERENCE: usize = 288;
+    pub const DATE: usize = 320;
+    pub const TIME: usize = 330;
+    pub const TIMEREF: usize = 338;
+    pub const VERSION: usize = 346;
+    // The 254 bytes after Version.
+    pub const REST: usize = 348;
+    pub const HISTORY: usize = 602;
 }
 
 // What a reader answers.

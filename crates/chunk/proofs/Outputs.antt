@@ -3,21 +3,41 @@
 -- Assumes nothing.
 use mathlib.Core.Path.{_≡_, refl, sym, ap, _∙_, subst}
 use mathlib.Core.Bool.{Bool, true, false}
-use mathlib.Core.List.{List, _++_}
-use Prim.Native.Nat.{ℕ, _≤_, _<_}
+use mathlib.Core.List.{List, [], _∷_, _++_}
+use Prim.Native.Nat.{ℕ, _+_, _≤_, _<_}
 use native.Mathlib.Nat.{zero-add}
+use native.Mathlib.Numerals.{add-one}
 use native.Mathlib.Omega.{arith}
-use lib.ListN.{length, take, drop}
-use lib.Seq.{sets, sets-eq, take-at}
+use lib.ListN.{length, set, take, drop, getD, replicate, length-replicate, replicate-append-replicate}
+use lib.Seq.{sets, sets-eq, take-at, take-suc, length-take-le}
 use lib.Dec.{leb}
 use borrow.Author.Tests.{le-leb, lt-leb, leb-true}
 use Rattle.le.specs.Choice.{pick}
+use Rattle.le.proofs.Laws.{sets-append}
 use Rattle.chunk.specs.declared.Refusal.{Refusal}
 use Rattle.chunk.specs.declared.Refusal.the-variants.{ShortOutput}
 use Rattle.chunk.specs.declared.Written.the-variants as written
 use Rattle.chunk.specs.Refusals.{Answer, refused, given}
 use Rattle.chunk.specs.Writes.{fitting, writtenOf, outputOf, Writes}
 use Rattle.chunk.proofs.Checks.{check-true, check-false}
+
+-- ---- runs put at a place
+
+-- a run after a run
+pub puts-next : (s xs ys : List ℕ) (at n : ℕ) → n ≡ at + length xs → sets (sets s at xs) n ys ≡ sets s at (xs ++ ys)
+puts-next s xs ys at n e = ap (λ k. sets (sets s at xs) k ys) e ∙ sym (sets-append xs ys s at)
+
+-- one number more of a run
+pub put-more : (s t : List ℕ) (at i : ℕ) → i < length t → set (sets s at (take i t)) (at + i) (getD t i 0) ≡ sets s at (take (i + 1) t)
+put-more s t at i h =
+    puts-next s (take i t) (getD t i 0 ∷ []) at (at + i) (omega (arith, length-take-le i t (omega arith)))
+    ∙ ap (sets s at) (sym (take-suc t i 0 h) ∙ ap (λ k. take k t) (sym (add-one i)))
+
+-- one zero more
+pub zero-more : (s : List ℕ) (at i : ℕ) → set (sets s at (replicate i 0)) (at + i) 0 ≡ sets s at (replicate (i + 1) 0)
+zero-more s at i =
+    puts-next s (replicate i 0) (0 ∷ []) at (at + i) (omega (arith, length-replicate {A = ℕ} i 0))
+    ∙ ap (sets s at) (replicate-append-replicate i 1 0)
 
 -- a run at the start, and what stands behind it
 pub puts-front : (s xs : List ℕ) → length xs ≤ length s → sets s 0 xs ≡ xs ++ drop (length xs) s

@@ -38,25 +38,10 @@ pub extern "C" fn symphedra_walk32(file: &[u8], table: &mut [u64]) -> u32
 pub extern "C" fn symphedra_sample_count(file: &[u8], out: &mut [u64]) -> u32
     ensures { λ r. ⌜ Answers 2 (samplesNumber (samplesOf (now (file .entry)))) (sets (now (out .entry)) 0 (samplesValues (samplesOf (now (file .entry))))) (now (out .entry)) r (now (out .exit)) ⌝ }
 {
-    if out.len() < 2 {
-        return 15;
-    }
     match samples::sample_count(file) {
-        Samples::Count(n) => {
-            out[0] = 1;
-            out[1] = n;
-            0
-        }
-        Samples::None => {
-            out[0] = 0;
-            out[1] = 0;
-            0
-        }
-        Samples::Refused(r) => {
-            out[0] = 0;
-            out[1] = 0;
-            r.number()
-        }
+        Samples::Count(n) => words::answer(0, &[1, n], out),
+        Samples::None => words::answer(0, &[0, 0], out),
+        Samples::Refused(r) => words::refuse(r, 2, out),
     }
 }
 
@@ -81,35 +66,7 @@ pub extern "C" fn symphedra_upgrade_bw64(file: &mut [u8]) -> u32
 pub extern "C" fn symphedra_read_fmt(payload: &[u8], record: &mut [u64]) -> u32
     ensures { λ r. ⌜ Answers 9 (fmtNumber (fmtRead (formatIn (now (payload .entry))))) (sets (now («record» .entry)) 0 (fmtValues (fmtRead (formatIn (now (payload .entry)))))) (now («record» .entry)) r (now («record» .exit)) ⌝ }
 {
-    if record.len() < 9 {
-        return 15;
-    }
-    match fmt::read(payload) {
-        fmt::Reading::Record(f) => {
-            record[0] = f.size;
-            record[1] = f.tag;
-            record[2] = f.channels;
-            record[3] = f.rate;
-            record[4] = f.byterate;
-            record[5] = f.block;
-            record[6] = f.bits;
-            record[7] = f.valid;
-            record[8] = f.mask;
-            0
-        }
-        fmt::Reading::Refused(r) => {
-            record[0] = 0;
-            record[1] = 0;
-            record[2] = 0;
-            record[3] = 0;
-            record[4] = 0;
-            record[5] = 0;
-            record[6] = 0;
-            record[7] = 0;
-            record[8] = 0;
-            r.number()
-        }
-    }
+    records::read_fmt(payload, record)
 }
 
 // A flag as a number.
@@ -124,33 +81,7 @@ fn flag(b: bool) -> u64
 pub extern "C" fn symphedra_read_bext(payload: &[u8], out: &mut [u64]) -> u32
     ensures { λ r. ⌜ Answers 8 (bextNumber (bextRead (bextIn (now (payload .entry))))) (sets (now (out .entry)) 0 (bextValues (bextRead (bextIn (now (payload .entry)))))) (now (out .entry)) r (now (out .exit)) ⌝ }
 {
-    if out.len() < 8 {
-        return 15;
-    }
-    match bext::read(payload) {
-        bext::Reading::Record(b) => {
-            out[0] = b.description;
-            out[1] = b.originator;
-            out[2] = b.reference;
-            out[3] = flag(b.date);
-            out[4] = flag(b.time);
-            out[5] = b.timeref;
-            out[6] = b.version;
-            out[7] = b.history;
-            0
-        }
-        bext::Reading::Refused(r) => {
-            out[0] = 0;
-            out[1] = 0;
-            out[2] = 0;
-            out[3] = 0;
-            out[4] = 0;
-            out[5] = 0;
-            out[6] = 0;
-            out[7] = 0;
-            r.number()
-        }
-    }
+    records::read_bext(payload, out)
 }
 
 // The three words of a chna record, or zeros.
@@ -158,21 +89,5 @@ pub extern "C" fn symphedra_read_bext(payload: &[u8], out: &mut [u64]) -> u32
 pub extern "C" fn symphedra_read_chna(payload: &[u8], channels: u16, out: &mut [u64]) -> u32
     ensures { λ r. ⌜ Answers 3 (chnaNumber (chnaRead (chnaIn channels (now (payload .entry))))) (sets (now (out .entry)) 0 (chnaValues (chnaRead (chnaIn channels (now (payload .entry)))))) (now (out .entry)) r (now (out .exit)) ⌝ }
 {
-    if out.len() < 3 {
-        return 15;
-    }
-    match chna::read(payload, channels as u64) {
-        chna::Reading::Record(c) => {
-            out[0] = c.tracks;
-            out[1] = c.uids;
-            out[2] = c.entries;
-            0
-        }
-        chna::Reading::Refused(r) => {
-            out[0] = 0;
-            out[1] = 0;
-            out[2] = 0;
-            r.number()
-        }
-    }
+    records::read_chna(payload, channels, out)
 }

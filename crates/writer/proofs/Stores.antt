@@ -20,7 +20,7 @@ use Rattle.chunk.specs.Writes.{fitting, outputOf}
 use Rattle.fmt.specs.declared.Format.{Format}
 use Rattle.fmt.specs.Writing.{writable, formatOut, formatBytes}
 use Rattle.fmt.proofs.Payloads.{out-of}
-use Rattle.bext.proofs.Stores.{puts-next}
+use Rattle.chunk.proofs.Outputs.{puts-next}
 use Rattle.writer.specs.Files.{padOf, chunkWith, chunkBytes}
 use Rattle.writer.specs.Contracts.{Puts}
 

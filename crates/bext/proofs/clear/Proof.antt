@@ -5,7 +5,7 @@ use Prim.Native.Nat.{_≤_, _-_, _+_}
 use native.Mathlib.Omega.{arith}
 use lib.ListN.{length, set, replicate}
 use lib.Seq.{sets, length-sets}
-use Rattle.bext.proofs.Stores.{zero-more}
+use Rattle.chunk.proofs.Outputs.{zero-more}
 use Rattle.bext.proofs.clear.Statement.{statement}
 use Rattle.bext.proofs.clear.Tie as tie
 

@@ -5,7 +5,7 @@ use Prim.Native.Nat.{_≤_, _-_, _+_}
 use native.Mathlib.Omega.{arith}
 use lib.ListN.{length, set, take, getD}
 use lib.Seq.{sets, length-sets, take-all}
-use Rattle.bext.proofs.Stores.{put-more}
+use Rattle.chunk.proofs.Outputs.{put-more}
 use Rattle.bext.proofs.put.Statement.{statement}
 use Rattle.bext.proofs.put.Tie as tie
 

@@ -5,7 +5,7 @@ use Prim.Native.Nat.{_+_, _-_}
 use lib.ListN.{length, replicate}
 use lib.Seq.{sets}
 use Rattle.bext_parts.specs.Parts.{padded}
-use Rattle.bext.proofs.Stores.{puts-next}
+use Rattle.chunk.proofs.Outputs.{puts-next}
 use borrow.Author.Needs.{needs}
 use Rattle.bext.proofs.put_text.Statement.{statement}
 use Rattle.bext.proofs.put_text.Tie as tie

@@ -12,7 +12,8 @@ use Rattle.bext_parts.specs.Parts.{restOf, padded}
 use Rattle.bext.specs.Records.{Whole}
 use Rattle.bext.specs.Writing.{laid, asked}
 use Rattle.bext.specs.Contracts.{Fitting}
-use Rattle.bext.proofs.Stores.{puts-next, padded-rest, rest-short, front1, front2, front3, front4, front5, front6, front7, front8, length1, length2, length3, length4, length5, length6, length7, length8}
+use Rattle.chunk.proofs.Outputs.{puts-next}
+use Rattle.bext.proofs.Stores.{padded-rest, rest-short, front1, front2, front3, front4, front5, front6, front7, front8, length1, length2, length3, length4, length5, length6, length7, length8}
 use Rattle.bext.proofs.store.Statement.{statement}
 use Rattle.bext.proofs.store.Tie as tie
 
