@@ -1,7 +1,7 @@
 -- The laws of the reader's and the writer's answers, one for each outcome.
 -- Assumes nothing.
-use mathlib.Core.Path.{_≡_, refl, sym, ap, ap₂, _∙_}
-use mathlib.Core.Bool.{Bool, true, false}
+use mathlib.Core.Path.{_≡_, sym, ap, ap₂, _∙_}
+use mathlib.Core.Bool.{true, false}
 use mathlib.Core.List.{List}
 use Prim.Native.Nat.{ℕ, _-_, _/_, _%_, _≤_, _<_}
 use native.Mathlib.Omega.{arith}
@@ -9,33 +9,13 @@ use lib.ListN.{length, take, drop, length-drop}
 use lib.Seq.{take-all}
 use borrow.Author.Tests.{le-leb, lt-leb, eq-eqb, ne-eqb}
 use Rattle.le.specs.Number.{number}
-use Rattle.chunk.specs.declared.Refusal.{Refusal}
 use Rattle.chunk.specs.declared.Refusal.the-variants.{BadChna}
-use Rattle.chunk.specs.Refusals.{Answer, refused, given, check}
+use Rattle.chunk.specs.Refusals.{given}
+use Rattle.chunk.proofs.Checks.{given-inj, check-given, check-true, check-false}
 use Rattle.chna.specs.declared.Chna.{Chna}
 use Rattle.chna.specs.declared.Reading.the-variants as reading
 use Rattle.chna.specs.Records.{Whole, wholeOf, wholeIn, wholeGood, entriesIn, lengthGood, chnaIn, numbersOf, readAs}
 use Rattle.chna.proofs.Counts.{entries-count}
-
--- ---- a check whose test is known
-
-pub checked : {A : Type 0} (b : Bool) (r : Refusal) (k : Answer A) → b ≡ true → check b r k ≡ k
-unfolding check
-checked b r k e = ap (λ (t : Bool). check t r k) e
-
-pub unchecked : {A : Type 0} (b : Bool) (r : Refusal) (k : Answer A) → b ≡ false → check b r k ≡ refused r
-unfolding check
-unchecked b r k e = ap (λ (t : Bool). check t r k) e
-
--- a check that ends in a value
-pub check-given : {A : Type 0} (b : Bool) (r : Refusal) (k : Answer A) (x : A) → check b r k ≡ given x
-    → (b ≡ true) × (k ≡ given x)
-unfolding check
-check-given true r k x e = (refl, e)
-check-given false r k x e = let z : _≡_ {A = ℕ} 0 1 = cc in absurd (omega arith)
-
-pub given-same : {A : Type 0} (x y : A) → _≡_ {A = Answer A} (given x) (given y) → x ≡ y
-given-same x y e = cc
 
 -- ---- the length of a payload
 
@@ -55,19 +35,19 @@ length-ragged n h e = simp (le-leb 4 n h, ne-eqb ((n - 4) % 40) 0 e)
 
 pub bad-length : (channels : ℕ) (p : List ℕ) → lengthGood (length p) ≡ false → reading.Refused BadChna ≡ readAs (chnaIn channels p)
 unfolding chnaIn readAs
-bad-length channels p e = sym (ap readAs (unchecked (lengthGood (length p)) BadChna _ e))
+bad-length channels p e = sym (ap readAs (check-false (lengthGood (length p)) BadChna _ e))
 
 pub bad-record : (channels : ℕ) (p : List ℕ) → lengthGood (length p) ≡ true → wholeGood channels (wholeIn p) ≡ false
     → reading.Refused BadChna ≡ readAs (chnaIn channels p)
 unfolding chnaIn readAs
 bad-record channels p e f =
-    sym (ap readAs (checked (lengthGood (length p)) BadChna _ e ∙ unchecked (wholeGood channels (wholeIn p)) BadChna _ f))
+    sym (ap readAs (check-true (lengthGood (length p)) BadChna _ e ∙ check-false (wholeGood channels (wholeIn p)) BadChna _ f))
 
 pub good-record : (channels : ℕ) (p : List ℕ) → lengthGood (length p) ≡ true → wholeGood channels (wholeIn p) ≡ true
     → chnaIn channels p ≡ given (wholeIn p)
 unfolding chnaIn
 good-record channels p e f =
-    checked (lengthGood (length p)) BadChna _ e ∙ checked (wholeGood channels (wholeIn p)) BadChna _ f
+    check-true (lengthGood (length p)) BadChna _ e ∙ check-true (wholeGood channels (wholeIn p)) BadChna _ f
 
 abbrev numbers : ℕ → ℕ → ℕ → Chna
 numbers t u n = record { tracks = t; uids = u; entries = n }
@@ -83,7 +63,7 @@ unfolding chnaIn
 accepted channels p w e =
     let f = check-given (lengthGood (length p)) BadChna _ w e in
     let g = check-given (wholeGood channels (wholeIn p)) BadChna _ w (f .1) in
-    record { long = f .0; good = g .0; is = given-same (wholeIn p) w (g .1) }
+    record { long = f .0; good = g .0; is = given-inj (wholeIn p) w (g .1) }
 
 -- the record as the reader gives it
 pub record-read : (channels : ℕ) (p : List ℕ) (tracks uids : ℕ) → lengthGood (length p) ≡ true → wholeGood channels (wholeIn p) ≡ true

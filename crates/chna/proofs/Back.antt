@@ -7,15 +7,14 @@ use Prim.Native.Nat.{ℕ, suc, _+_, _*_, _/_, _≤_, _<_}
 use native.Mathlib.Omega.{arith}
 use lib.ListN.{length, drop, length-append}
 use lib.Seq.{take-at, drop-at}
-use lib.Dec.{eqb, leb}
 use borrow.Author.Tests.{leb-true, eqb-true}
 use Rattle.le.specs.Number.{bytes, number}
 use Rattle.le.specs.Choice.{pick, every}
 use Rattle.le.proofs.Laws.{bytes-length}
+use Rattle.chunk.proofs.Checks.{rule-and}
 use Rattle.chna_entry.specs.Ids.{fitsOne, fits}
 use Rattle.chna_entry.specs.Entries.{Entry, unused, used, usedIn, entryIn, entryGood}
 use Rattle.chna.specs.Records.{entriesAt, entriesIn, entriesGood, indices, occurs, different, Whole, wholeOf, wholeIn, wholeGood, lengthGood, entryBytes, entriesBytes, payloadOf}
-use Rattle.chna_entry.proofs.Patterns.{both-first, both-second}
 use Rattle.chna_entry.proofs.Entries.{good-used}
 use Rattle.chna_entry.proofs.Parts.{number-mid, number-first, laid-out, used-length, used-back, not-zeros}
 use Rattle.chna.proofs.Answers.{length-good}
@@ -42,23 +41,19 @@ entries-length : (channels : ℕ) (es : List Entry) → entriesGood channels es 
 unfolding entriesGood entriesBytes pick
 entries-length channels [] h = refl
 entries-length channels (e ∷ es) h =
-    omega (
-      arith,
-      length-append (entryBytes e) (entriesBytes es),
-      entry-length channels e (both-first (entryGood channels e) (entriesGood channels es) h),
-      entries-length channels es (both-second (entryGood channels e) (entriesGood channels es) h),
-    )
+    let g = rule-and (entryGood channels e) (entriesGood channels es) h in
+    omega (arith, length-append (entryBytes e) (entriesBytes es), entry-length channels e (g .0), entries-length channels es (g .1))
 
 entries-back : (channels : ℕ) (es : List Entry) → entriesGood channels es ≡ true → entriesAt (length es) (entriesBytes es) ≡ es
 unfolding entriesGood entriesBytes entriesAt pick
 entries-back channels [] h = refl
 entries-back channels (e ∷ es) h =
-    let one = both-first (entryGood channels e) (entriesGood channels es) h in
-    let long = entry-length channels e one in
+    let g = rule-and (entryGood channels e) (entriesGood channels es) h in
+    let long = entry-length channels e (g .0) in
     ap₂ (λ (x : Entry) (xs : List Entry). x ∷ xs)
-    (ap entryIn (take-at (entryBytes e) (entriesBytes es) 40 long) ∙ entry-back channels e one)
+    (ap entryIn (take-at (entryBytes e) (entriesBytes es) 40 long) ∙ entry-back channels e (g .0))
     (ap (entriesAt (length es)) (drop-at (entryBytes e) (entriesBytes es) 40 long)
-    ∙ entries-back channels es (both-second (entryGood channels e) (entriesGood channels es) h))
+    ∙ entries-back channels es (g .1))
 
 -- ---- the record
 
@@ -86,14 +81,14 @@ pub record Sound (channels : ℕ) (w : Whole) : Type 0 where
 pub sound : (channels : ℕ) (w : Whole) → wholeGood channels w ≡ true → Sound channels w
 unfolding wholeGood every
 sound channels w e =
-    let e₁ = both-second (leb (length (w .entries)) 1024) _ e in
-    let e₂ = both-second (entriesGood channels (w .entries)) _ e₁ in
-    let e₃ = both-second (eqb (w .uids) (length (indices (w .entries)))) _ e₂ in
+    let few = rule-and _ _ e in
+    let good = rule-and _ _ (few .1) in
+    let uids = rule-and _ _ (good .1) in
     record {
-      few = leb-true (length (w .entries)) 1024 (both-first (leb (length (w .entries)) 1024) _ e);
-      good = both-first (entriesGood channels (w .entries)) _ e₁;
-      uids = eqb-true (w .uids) _ (both-first (eqb (w .uids) (length (indices (w .entries)))) _ e₂);
-      tracks = eqb-true (w .tracks) _ (both-first (eqb (w .tracks) (different (indices (w .entries)))) true e₃);
+      few = leb-true (length (w .entries)) 1024 (few .0);
+      good = good .0;
+      uids = eqb-true (w .uids) (length (indices (w .entries))) (uids .0);
+      tracks = eqb-true (w .tracks) (different (indices (w .entries))) (rule-and _ true (uids .1) .0);
     }
 
 abbrev whole : ℕ → ℕ → List Entry → Whole

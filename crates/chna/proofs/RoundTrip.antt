@@ -8,16 +8,16 @@ use Prim.Native.Nat.{ℕ, _-_, _%_, _≤_}
 use native.Mathlib.Omega.{arith}
 use lib.ListN.{length, take, drop, replicate, length-drop}
 use lib.Seq.{take-add}
-use lib.Dec.{eqb, leb}
+use lib.Dec.{eqb}
 use borrow.Author.Tests.{leb-true, eqb-true}
 use Rattle.le.specs.Number.{Bytes, bytes, field, number, value}
 use Rattle.chunk.specs.declared.Refusal.the-variants.{BadChna, BadRecord}
 use Rattle.chunk.specs.Refusals.{refused, given, check}
+use Rattle.chunk.proofs.Checks.{given-inj, check-given, check-true, and-true}
 use Rattle.chna_entry.specs.Ids.{isHex, fitsOne, fits, codes}
 use Rattle.chna_entry.specs.Entries.{entryIn, entryGood, usedIn, usedGood}
 use Rattle.chna.specs.Records.{entriesIn, entriesAt, entriesGood, indices, different, occurs, padsAt, Whole, wholeOf, wholeIn, wholeGood, lengthGood, chnaIn, payloadOf, chnaOut, chnaFrom, padsOff, padsZeroed}
-use Rattle.chna_entry.proofs.Patterns.{first, second}
-use Rattle.chna.proofs.Answers.{checked, check-given, given-same, good-record, accepted}
+use Rattle.chna.proofs.Answers.{good-record, accepted}
 use Rattle.chna.proofs.Back.{payload-length, payload-back, Sound, sound}
 use Rattle.le.proofs.Laws.{Bytes-drop, bytes-number}
 use Rattle.chna.proofs.Payloads.{payload-bytes}
@@ -29,7 +29,7 @@ pub written-reads-back : (channels : ℕ) (w : Whole) (bs : List ℕ) → chnaOu
 unfolding chnaOut
 written-reads-back channels w bs e =
     let f = check-given (wholeGood channels w) BadRecord _ bs e in
-    ap (chnaIn channels) (sym (given-same (payloadOf w) bs (f .1)))
+    ap (chnaIn channels) (sym (given-inj (payloadOf w) bs (f .1)))
     ∙ good-record channels (payloadOf w) (payload-length channels w (f .0)) (ap (wholeGood channels) (payload-back channels w (f .0)) ∙ f .0)
     ∙ ap given (payload-back channels w (f .0))
 
@@ -51,8 +51,7 @@ counts p h n =
 
 long : (n : ℕ) → lengthGood n ≡ true → (4 ≤ n) × ((n - 4) % 40 ≡ 0)
 unfolding lengthGood
-long n e =
-    (leb-true 4 n (first (leb 4 n) (eqb ((n - 4) % 40) 0) e), eqb-true ((n - 4) % 40) 0 (second (leb 4 n) (eqb ((n - 4) % 40) 0) e))
+long n e = let both = and-true _ _ e in (leb-true 4 n (both .0), eqb-true ((n - 4) % 40) 0 (both .1))
 
 -- reading then writing gives the same bytes but for the pads
 pub read-writes-back : (channels : ℕ) (p : List ℕ) (w : Whole) → Bytes p → chnaIn channels p ≡ given w
@@ -62,7 +61,7 @@ read-writes-back channels p w h e =
     let a = accepted channels p w e in
     let n = long (length p) (a .long) in
     subst (λ (x : Whole). chnaOut channels x ≡ given (padsZeroed p)) (a .is)
-    (checked (wholeGood channels (wholeIn p)) BadRecord _ (a .good)
+    (check-true (wholeGood channels (wholeIn p)) BadRecord _ (a .good)
     ∙ ap given
     (payload-bytes (number 2 0 p) (number 2 2 p) (drop 4 p) (Bytes-drop 4 p h) (omega (arith, length-drop 4 p, n .1))
     ∙ ap (λ (l : List ℕ). l ++ padsOff (drop 4 p)) (counts p h (n .0))))
@@ -76,7 +75,7 @@ pads-zeroed-reads channels p w h e = written-reads-back channels w (padsZeroed p
 pub one-record : (channels : ℕ) (p : List ℕ) (w v : Whole) → Bytes p → chnaIn channels p ≡ given w
     → chnaOut channels v ≡ given (padsZeroed p) → v ≡ w
 one-record channels p w v h e f =
-    given-same v w (sym (written-reads-back channels v (padsZeroed p) f) ∙ pads-zeroed-reads channels p w h e)
+    given-inj v w (sym (written-reads-back channels v (padsZeroed p) f) ∙ pads-zeroed-reads channels p w h e)
 
 -- The pad of an entry that is zero but for it is not ignored: such an entry is a used one with index 0. So what zeroing the
 -- pads keeps is said of accepted payloads alone.

@@ -1,6 +1,5 @@
 -- Document 01, "chna" (002 8): the record that a payload holds, or 14; the payload of a record, or 16.
 use Prim.Native.Nat.{ℕ, zero, suc, _-_, _/_, _%_}
-use mathlib.Core.Path.{_≡_}
 use mathlib.Core.Bool.{Bool, true, false, _&&_}
 use mathlib.Core.List.{List, [], _∷_, _++_}
 use lib.ListN.{length, take, drop, set, replicate}
@@ -8,9 +7,7 @@ use lib.Dec.{eqb, leb}
 use Rattle.le.specs.Number.{bytes, number}
 use Rattle.le.specs.Choice.{pick, every}
 use Rattle.chunk.specs.declared.Refusal.the-variants.{BadChna, BadRecord}
-use Rattle.chunk.specs.declared.Written.{Written}
 use Rattle.chunk.specs.Refusals.{refusalNumber, Answer, refused, given, check}
-use Rattle.chunk.specs.Writes.{fitting, writtenOf, outputOf}
 use Rattle.chna_entry.specs.Entries.{Entry, unused, used, entryIn, entryGood}
 use Rattle.chna.specs.declared.Chna.{Chna}
 use Rattle.chna.specs.declared.Reading.{Reading}
@@ -130,11 +127,6 @@ chnaOut channels w = check (wholeGood channels w) BadRecord (given (payloadOf w)
 unfoldable pub chnaFrom : ℕ → ℕ → ℕ → List ℕ → Answer (List ℕ)
 unfolding check
 chnaFrom channels tracks uids s = check (eqb (length s % 40) 0) BadRecord (chnaOut channels (wholeOf tracks uids s))
-
--- what the writer answers and leaves in its output
-pub record Writes (a : Answer (List ℕ)) (entry exit : List ℕ) (r : Written) : Type 0 where
-  pub answers : r ≡ writtenOf (fitting entry a)
-  pub leaves : exit ≡ outputOf entry (fitting entry a)
 
 -- ---- pads
 

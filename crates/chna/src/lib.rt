@@ -9,7 +9,8 @@ ghost use mathlib.Core.List.{_++_};
 ghost use Prim.Native.Nat.{_/_, _%_, _^_, _≤_, _<_};
 ghost use lib.ListN.{length, drop};
 ghost use lib.Bits.{bitOr};
-ghost use Rattle.chna.specs.Records.{wholeOf, wholeGood, chnaIn, readAs, chnaFrom, Writes, padsOff, padsZeroed};
+ghost use Rattle.chunk.specs.Writes.{Writes};
+ghost use Rattle.chna.specs.Records.{wholeOf, wholeGood, chnaIn, readAs, chnaFrom, padsOff, padsZeroed};
 
 // A record: its two counts and how many entries it has.
 pub struct Chna {

@@ -7,28 +7,23 @@ use mathlib.Core.List.{List, [], _∷_, _++_, append-assoc}
 use Prim.Native.Nat.{ℕ, _<_}
 use native.Mathlib.Omega.{arith}
 use lib.ListN.{length, set, take, drop, length-append, drop-of-length-le}
-use lib.Seq.{set-split, take-add, take-at, drop-at}
+use lib.Seq.{set-split, take-add, drop-at}
 use Rattle.le.specs.Number.{value, bytes, field, number}
-use Rattle.le.proofs.Laws.{bytes-length}
+use Rattle.le.proofs.Laws.{bytes-length, field-at, number-at}
 use Rattle.chna_entry.specs.Ids.{fits, UNUSED}
 use Rattle.chna_entry.specs.Entries.{Used, usedIn}
 use Rattle.chna_entry.proofs.Patterns.{zeros-only}
 use Rattle.chna_entry.proofs.Entries.{Good}
 
--- a field that stands behind so many bytes
+-- what stands behind so many bytes
+behind : (a m z : List ℕ) (at : ℕ) → length a ≡ at → drop at (a ++ m ++ z) ≡ m ++ z
+behind a m z at h = ap (drop at) (append-assoc a m z) ∙ drop-at a (m ++ z) at h
+
 field-mid : (a m z : List ℕ) (at n : ℕ) → length a ≡ at → length m ≡ n → field n at (a ++ m ++ z) ≡ m
-unfolding field
-field-mid a m z at n h k =
-    ap (take n) (ap (drop at) (append-assoc a m z) ∙ drop-at a (m ++ z) at h) ∙ take-at m z n k
+field-mid a m z at n h k = field-at n at (a ++ m ++ z) m z k (behind a m z at h)
 
-value-two : (v : ℕ) → v < 65536 → value (bytes 2 v) ≡ v
-unfolding value bytes
-value-two v h = omega arith
-
--- two bytes of a number are read back behind so many others
 pub number-mid : (a z : List ℕ) (at v : ℕ) → length a ≡ at → v < 65536 → number 2 at (a ++ bytes 2 v ++ z) ≡ v
-unfolding number
-number-mid a z at v h k = ap value (field-mid a (bytes 2 v) z at 2 h (bytes-length 2 v)) ∙ value-two v k
+number-mid a z at v h k = number-at 2 at v (a ++ bytes 2 v ++ z) z k (behind a (bytes 2 v) z at h)
 
 pub number-first : (z : List ℕ) (v : ℕ) → v < 65536 → number 2 0 (bytes 2 v ++ z) ≡ v
 number-first z v k = number-mid [] z 0 v refl k

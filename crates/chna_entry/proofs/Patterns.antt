@@ -132,11 +132,11 @@ unfolding Bytes field
 bytes-field n at s h =
     bytes-take n (drop at s) (Bytes-drop at s h)
 
-pub first : (a b : Bool) → a && b ≡ true → a ≡ true
+first : (a b : Bool) → a && b ≡ true → a ≡ true
 first true b e = refl
 first false b e = e
 
-pub second : (a b : Bool) → a && b ≡ true → b ≡ true
+second : (a b : Bool) → a && b ≡ true → b ≡ true
 second true b e = e
 second false b e = absurd (true≢false (sym e))
 

@@ -8,21 +8,23 @@ use borrow.Author.Tests.{not-true, not-false}
 use Rattle.le.specs.Number.{Bytes, bytes, stored}
 use Rattle.chna.proofs.Pads.{laid}
 use Rattle.chna.proofs.Payloads.{counts-stored, four-bytes}
-use Rattle.chna.proofs.Written.{writes-ragged, writes-unwritable, writes-short, writes-all}
+use Rattle.chunk.proofs.Outputs.{refuses, lacks-room, writes}
+use Rattle.chna.proofs.Written.{ragged, unwritable, writable, written-length}
 use borrow.Author.Needs.{needs}
 use Rattle.chna.proofs.write.Statement.{statement}
 use Rattle.chna.proofs.write.Tie as tie
 
 returns : tie.Need-returns
-returns c = writes-ragged _ _ _ _ _ (c .if1 .taken)
+returns c = refuses _ _ _ (ragged _ _ _ _ (c .if1 .taken))
 
 whole-good-requires : tie.Need-whole-good-requires
 whole-good-requires c κs = search needs
 
 returns-2 : tie.Need-returns-2
 returns-2 c =
-    writes-unwritable _ _ _ _ _ (c .before .before .if1 .left)
-    (sym (c .before .whole-good .ensures) ∙ not-true (c .before .whole-good .result) (c .if2 .taken))
+    refuses _ _ _
+    (unwritable _ _ _ _ (c .before .before .if1 .left)
+    (sym (c .before .whole-good .ensures) ∙ not-true (c .before .whole-good .result) (c .if2 .taken)))
 
 add-size : tie.Need-add-size
 add-size c = search needs
@@ -30,9 +32,11 @@ add-size c = search needs
 returns-3 : tie.Need-returns-3
 unfolding Bytes
 returns-3 c =
-    writes-short _ _ _ _ _ (λ i. omega (arith, c .before .before .before .before .before .shared-slice-known .given i)) (c .before .before .before .if1 .left)
-    (sym (c .before .before .whole-good .ensures) ∙ not-false (c .before .before .whole-good .result) (c .before .if2 .left))
-    (c .if3 .taken)
+    let a = c .before .before .before .before .before .before .args in
+    lacks-room _ _ _
+    (writable (a .channels) (a .tracks) (a .uids) (a .entries .now) (λ i. omega (arith, c .before .before .before .before .before .shared-slice-known .given i)) (c .before .before .before .if1 .left)
+    (sym (c .before .before .whole-good .ensures) ∙ not-false (c .before .before .whole-good .result) (c .before .if2 .left)))
+    (omega (arith, written-length (a .tracks) (a .uids) (a .entries .now)))
 
 store2-requires : tie.Need-store2-requires
 store2-requires c κs = search needs
@@ -64,10 +68,11 @@ returns-4 c =
     let one = c .before .before .before .before .before .before .before .before .before .before .store2 in
     let two = c .before .before .before .before .before .before .store22 in
     let z = c .before .before .copy-entries in
-    writes-all (a .channels) (a .tracks) (a .uids) (a .entries .now) (a .out .now)
+    writes _ _ _
+    (writable (a .channels) (a .tracks) (a .uids) (a .entries .now)
     (λ i. omega (arith, c .before .before .before .before .before .before .before .before .before .before .before .before .before .before .before .before .before .shared-slice-known .given i)) (c .before .before .before .before .before .before .before .before .before .before .before .before .before .before .before .if1 .left)
-    (sym (w .ensures) ∙ not-false (w .result) (c .before .before .before .before .before .before .before .before .before .before .before .before .before .if2 .left))
-    _ (c .before .before .before .before .before .before .before .before .before .before .before .before .if3 .left)
+    (sym (w .ensures) ∙ not-false (w .result) (c .before .before .before .before .before .before .before .before .before .before .before .before .before .if2 .left)))
+    _ _ (sym (written-length (a .tracks) (a .uids) (a .entries .now))) (c .before .before .before .before .before .before .before .before .before .before .before .before .if3 .left)
     (laid (bytes 2 (a .tracks) ++ bytes 2 (a .uids)) (a .entries .now) (a .out .now) (two .last .0) (z .last .1 .0)
     (four-bytes (a .tracks) (a .uids)) (c .before .before .before .before .before .before .before .before .before .before .before .before .if3 .left)
     (two .ensures ∙ ap (stored 2 2 (a .uids)) (one .ensures) ∙ counts-stored (a .tracks) (a .uids) (a .out .now) (omega (arith, c .before .before .before .before .before .before .before .before .before .before .before .before .if3 .left)))
