@@ -5,12 +5,11 @@
 use chunk::Refusal;
 use chunk::Written;
 ghost use mathlib.Core.Path.{_≡_};
-ghost use mathlib.Core.List.{_++_};
-ghost use Prim.Native.Nat.{_/_, _%_, _^_, _≤_, _<_};
-ghost use lib.ListN.{length, drop};
+ghost use Prim.Native.Nat.{_/_, _%_, _^_, _<_};
 ghost use lib.Bits.{bitOr};
-ghost use Rattle.chunk.specs.Writes.{Writes};
-ghost use Rattle.chna.specs.Records.{wholeOf, wholeGood, chnaIn, readAs, chnaFrom, padsOff, padsZeroed};
+ghost use Rattle.chunk.specs.Refusals.{given};
+ghost use Rattle.chunk.specs.Writes.{fitting, outputOf, Writes};
+ghost use Rattle.chna.specs.Records.{wholeOf, wholeGood, chnaIn, readAs, chnaFrom, padsZeroed};
 
 // A record: its two counts and how many entries it has.
 pub struct Chna {
@@ -111,36 +110,28 @@ pub fn read(payload: &[u8], channels: u64) -> Reading
     })
 }
 
-// Sets the pad of each entry to zero.
-fn zero_pads(entries: &mut [u8])
-    ensures { λ _. ⌜ now (entries .exit) ≡ padsOff (now (entries .entry)) ⌝ }
+// Sets the pad of each whole entry of a payload to zero: its last byte, so the first stands at 43.
+fn zero_pads(payload: &mut [u8])
+    ensures { λ _. ⌜ now (payload .exit) ≡ padsZeroed (now (payload .entry)) ⌝ }
 {
-    let count = entries.len() / Chna::ENTRY;
-    let mut i = 0;
-    while i < count {
-        let at = i * Chna::ENTRY + 39;
-        entries[at] = 0;
-        i += 1;
+    let mut at = 43;
+    while at < payload.len() {
+        payload[at] = 0;
+        at += Chna::ENTRY;
     }
 }
 
-// Copies entries to the start of out, the pad of each as zero.
-fn copy_entries(entries: &[u8], out: &mut [u8])
-    requires { ⌜ length (now entries) ≤ length (now out) ⌝ }
-    ensures { λ _. ⌜ now (out .exit) ≡ padsOff (now (entries .entry)) ++ drop (length (now (entries .entry))) (now (out .entry)) ⌝ }
-{
-    let size = entries.len();
-    bytes::copy(entries, out);
-    zero_pads(&mut out[..size]);
-}
-
-// Copies a payload to the start of out, the pad of each entry as zero. It judges nothing: that is read's part.
+// Copies a payload, which may be any bytes at all, to the start of out, the pad of each whole entry as zero. An out that is
+// too short is left as it was. It judges nothing: that is read's part.
 pub fn copy(payload: &[u8], out: &mut [u8])
-    requires { ⌜ (4 ≤ length (now payload)) × (length (now payload) ≤ length (now out)) ⌝ }
-    ensures { λ _. ⌜ now (out .exit) ≡ padsZeroed (now (payload .entry)) ++ drop (length (now (payload .entry))) (now (out .entry)) ⌝ }
+    ensures { λ _. ⌜ now (out .exit) ≡ outputOf (now (out .entry)) (fitting (now (out .entry)) (given (padsZeroed (now (payload .entry))))) ⌝ }
 {
-    bytes::copy(&payload[..4], out);
-    copy_entries(&payload[4..], &mut out[4..]);
+    let n = payload.len();
+    if out.len() < n {
+        return;
+    }
+    bytes::copy(payload, out);
+    zero_pads(&mut out[..n]);
 }
 
 // Writes the payload of a record, whose entries are given as they stand in a payload, to the start of out. The pad of a
@@ -160,6 +151,7 @@ pub fn write(tracks: u64, uids: u64, entries: &[u8], channels: u64, out: &mut [u
     }
     le::store2(out, 0, tracks);
     le::store2(out, 2, uids);
-    copy_entries(entries, &mut out[4..]);
+    bytes::copy(entries, &mut out[4..]);
+    zero_pads(&mut out[..size]);
     Written::Bytes(size as u64)
 }

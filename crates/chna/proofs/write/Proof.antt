@@ -1,14 +1,15 @@
 -- `chna::write` meets its contract: each exit is one outcome of the definition, and the last lays the counts and the
--- entries behind them.
+-- entries behind them, whose pads are then zeroed.
 -- Assumes nothing.
 use mathlib.Core.Path.{sym, ap, _∙_}
 use mathlib.Core.List.{_++_}
 use native.Mathlib.Omega.{arith}
+use lib.Seq.{length-take-le}
 use borrow.Author.Tests.{not-true, not-false}
 use Rattle.le.specs.Number.{Bytes, bytes, stored}
-use Rattle.chna.proofs.Pads.{laid}
-use Rattle.chna.proofs.Payloads.{counts-stored, four-bytes}
 use Rattle.chunk.proofs.Outputs.{refuses, lacks-room, writes}
+use Rattle.chna.proofs.Pads.{laid-zeroed}
+use Rattle.chna.proofs.Payloads.{counts-stored, four-bytes}
 use Rattle.chna.proofs.Written.{ragged, unwritable, writable, written-length}
 use borrow.Author.Needs.{needs}
 use Rattle.chna.proofs.write.Statement.{statement}
@@ -44,17 +45,26 @@ store2-requires c κs = search needs
 store2-requires-2 : tie.Need-store2-requires-2
 store2-requires-2 c κs = search needs
 
-sub-copy-entries : tie.Need-sub-copy-entries
-sub-copy-entries c = search needs
+sub-copy : tie.Need-sub-copy
+sub-copy c = search needs
 
-part-copy-entries-start : tie.Need-part-copy-entries-start
-part-copy-entries-start c = search needs
+part-copy-start : tie.Need-part-copy-start
+part-copy-start c = search needs
 
-part-copy-entries-end : tie.Need-part-copy-entries-end
-part-copy-entries-end c = search needs
+part-copy-end : tie.Need-part-copy-end
+part-copy-end c = search needs
 
-copy-entries-requires : tie.Need-copy-entries-requires
-copy-entries-requires c κs = search needs
+copy-requires : tie.Need-copy-requires
+copy-requires c κs = search needs
+
+slice-relend-prefix-zero-pads : tie.Need-slice-relend-prefix-zero-pads
+slice-relend-prefix-zero-pads c = search needs
+
+slice-aggregate-zero-pads : tie.Need-slice-aggregate-zero-pads
+slice-aggregate-zero-pads c = sym (length-take-le _ _ (slice-relend-prefix-zero-pads (c .before)))
+
+zero-pads-requires : tie.Need-zero-pads-requires
+zero-pads-requires c κs = search needs
 
 same-length : tie.Need-same-length
 same-length c = search needs
@@ -62,21 +72,19 @@ same-length c = search needs
 returns-4 : tie.Need-returns-4
 unfolding Bytes
 returns-4 c =
-    let s = c .before .before .before .before .before .before .before .before .before .before .before .before .before .before .before .before .before .before in
-    let a = s .args in
-    let w = c .before .before .before .before .before .before .before .before .before .before .before .before .before .before .whole-good in
-    let one = c .before .before .before .before .before .before .before .before .before .before .store2 in
-    let two = c .before .before .before .before .before .before .store22 in
-    let z = c .before .before .copy-entries in
+    let judged = c .before .before .before .before .before .before .before .before .before .before .before .before .before .before .before .before in
+    let a = judged .before .before .before .before .before .before .args in
+    let w = judged .before .before .whole-good in
+    let two = c .before .before .before .before .before .before .before .before .before .before .store22 in
     writes _ _ _
     (writable (a .channels) (a .tracks) (a .uids) (a .entries .now)
-    (λ i. omega (arith, c .before .before .before .before .before .before .before .before .before .before .before .before .before .before .before .before .before .shared-slice-known .given i)) (c .before .before .before .before .before .before .before .before .before .before .before .before .before .before .before .if1 .left)
-    (sym (w .ensures) ∙ not-false (w .result) (c .before .before .before .before .before .before .before .before .before .before .before .before .before .if2 .left)))
-    _ _ (sym (written-length (a .tracks) (a .uids) (a .entries .now))) (c .before .before .before .before .before .before .before .before .before .before .before .before .if3 .left)
-    (laid (bytes 2 (a .tracks) ++ bytes 2 (a .uids)) (a .entries .now) (a .out .now) (two .last .0) (z .last .1 .0)
-    (four-bytes (a .tracks) (a .uids)) (c .before .before .before .before .before .before .before .before .before .before .before .before .if3 .left)
-    (two .ensures ∙ ap (stored 2 2 (a .uids)) (one .ensures) ∙ counts-stored (a .tracks) (a .uids) (a .out .now) (omega (arith, c .before .before .before .before .before .before .before .before .before .before .before .before .if3 .left)))
-    (z .ensures))
+    (λ i. omega (arith, judged .before .before .before .before .before .shared-slice-known .given i)) (judged .before .before .before .if1 .left)
+    (sym (w .ensures) ∙ not-false (w .result) (judged .before .if2 .left)))
+    _ _ (sym (written-length (a .tracks) (a .uids) (a .entries .now))) (judged .if3 .left)
+    (laid-zeroed (bytes 2 (a .tracks) ++ bytes 2 (a .uids)) (a .entries .now) (a .out .now) (two .last .0) _ (four-bytes (a .tracks) (a .uids))
+    (two .ensures ∙ ap (stored 2 2 (a .uids)) (c .before .before .before .before .before .before .before .before .before .before .before .before .before .before .store2 .ensures) ∙ counts-stored (a .tracks) (a .uids) (a .out .now) (omega (arith, judged .if3 .left)))
+    (c .before .before .before .before .before .before .copy .ensures .1)
+    _ (c .before .before .zero-pads .ensures))
 
 pub write-spec : {M : Type 1} → statement M
 write-spec =
@@ -89,9 +97,12 @@ write-spec =
     returns-3
     store2-requires
     store2-requires-2
-    sub-copy-entries
-    part-copy-entries-start
-    part-copy-entries-end
-    copy-entries-requires
+    sub-copy
+    part-copy-start
+    part-copy-end
+    copy-requires
+    slice-relend-prefix-zero-pads
+    slice-aggregate-zero-pads
+    zero-pads-requires
     same-length
     returns-4)
