@@ -1,4 +1,3 @@
 pub mod Laws
 pub mod Payloads
-pub mod Outputs
 pub mod RoundTrip

@@ -9,19 +9,20 @@ use Prim.Native.Nat.{ℕ, _+_, _*_, _≤_, _<_}
 use native.Mathlib.Nat.{zero-add}
 use native.Mathlib.Omega.{arith}
 use lib.ListN.{length, drop, length-append}
-use lib.Seq.{sets, sets-eq}
+use lib.Seq.{sets}
 use lib.Dec.{eqb}
-use borrow.Author.Tests.{eq-eqb, eqb-true, le-leb, lt-leb}
+use borrow.Author.Tests.{eq-eqb, eqb-true}
 use Rattle.le.specs.Number.{bytes}
 use Rattle.le.proofs.Laws.{sets-append}
 use Rattle.chunk.specs.declared.Refusal.the-variants.{BadRecord, ShortOutput}
 use Rattle.chunk.specs.declared.Written.the-variants as written
-use Rattle.chunk.specs.Refusals.{Answer, refused, given}
-use Rattle.chunk.specs.Writes.{fitting, writtenOf, outputOf}
+use Rattle.chunk.specs.Refusals.{given}
+use Rattle.chunk.specs.Writes.{Writes}
 use Rattle.chunk.proofs.Checks.{check-true, check-false, check-given, given-inj}
+use Rattle.chunk.proofs.Outputs.{puts-front, refuses, lacks-room, writes}
 use Rattle.fmt.specs.declared.Format.{Format}
 use Rattle.fmt.specs.Formats.{recordGood}
-use Rattle.fmt.specs.Writing.{headBytes, extraBytes, formatBytes, fieldsFit, writable, formatOut, Writes}
+use Rattle.fmt.specs.Writing.{headBytes, extraBytes, formatBytes, fieldsFit, writable, formatOut}
 use Rattle.fmt.proofs.Laws.{all, every-of, good, size-cases, Fits, fits, fits-of, extra-16, extra-18, extra-40}
 
 -- ---- lengths
@@ -78,45 +79,24 @@ size-least f h = omega (arith, extra-length f (writable-true f h .good))
 
 -- ---- what the writer answers and leaves
 
-pub refuse16 : (f : Format) (s : List ℕ) → writable f ≡ false → Writes f s s (written.Refused BadRecord)
-unfolding formatOut fitting writtenOf outputOf
-refuse16 f s h =
-    let e = check-false (writable f) BadRecord (given (formatBytes f)) h in
-    record {
-      answers = sym (ap (λ (a : Answer (List ℕ)). writtenOf (fitting s a)) e);
-      leaves = sym (ap (λ (a : Answer (List ℕ)). outputOf s (fitting s a)) e);
-    }
+pub refuse16 : (f : Format) (s : List ℕ) → writable f ≡ false → Writes (formatOut f) s s (written.Refused BadRecord)
+unfolding formatOut
+refuse16 f s h = refuses (formatOut f) s BadRecord (check-false (writable f) BadRecord (given (formatBytes f)) h)
 
 module _ (f : Format) (s : List ℕ) (can : writable f ≡ true) where
-  reported : fitting s (formatOut f) ≡ fitting s (given (formatBytes f))
-  reported = ap (fitting s) (out-of f can)
-
   long : length (formatBytes f) ≡ f .size
   long = payload-length f (writable-true f can .good)
 
-  no-room : length s < f .size → fitting s (formatOut f) ≡ refused ShortOutput
-  unfolding fitting
-  no-room h = reported ∙ check-false _ ShortOutput (given (formatBytes f)) (lt-leb (length (formatBytes f)) (length s) (omega (arith, long)))
-
-  room : f .size ≤ length s → fitting s (formatOut f) ≡ given (formatBytes f)
-  unfolding fitting
-  room h = reported ∙ check-true _ ShortOutput (given (formatBytes f)) (le-leb (length (formatBytes f)) (length s) (omega (arith, long)))
-
-  pub refuse15 : length s < f .size → Writes f s s (written.Refused ShortOutput)
-  unfolding writtenOf outputOf
-  refuse15 h = record { answers = sym (ap writtenOf (no-room h)); leaves = sym (ap (outputOf s) (no-room h)) }
+  pub refuse15 : length s < f .size → Writes (formatOut f) s s (written.Refused ShortOutput)
+  refuse15 h = lacks-room (formatOut f) s (formatBytes f) (out-of f can) (omega (arith, long))
 
   pub wrote : (t : List ℕ) → f .size ≤ length s → t ≡ sets (sets s 0 (headBytes f)) 16 (extraBytes f)
-      → Writes f s t (written.Bytes (f .size))
-  unfolding writtenOf outputOf formatBytes
+      → Writes (formatOut f) s t (written.Bytes (f .size))
+  unfolding formatBytes
   wrote t h e =
-      record {
-        answers = ap written.Bytes (sym long) ∙ sym (ap writtenOf (room h));
-        leaves =
-            e
-            ∙ ap (λ (k : ℕ). sets (sets s 0 (headBytes f)) k (extraBytes f)) (sym (head-length f) ∙ sym (zero-add _))
-            ∙ sym (sets-append (headBytes f) (extraBytes f) s 0)
-            ∙ sets-eq (formatBytes f) s 0 (omega (arith, long))
-            ∙ ap (λ (k : ℕ). formatBytes f ++ drop k s) (zero-add (length (formatBytes f)))
-            ∙ sym (ap (outputOf s) (room h));
-      }
+      writes (formatOut f) s (formatBytes f) (out-of f can) t (f .size) (sym long) h
+      (e
+      ∙ ap (λ (k : ℕ). sets (sets s 0 (headBytes f)) k (extraBytes f)) (sym (head-length f) ∙ sym (zero-add _))
+      ∙ sym (sets-append (headBytes f) (extraBytes f) s 0)
+      ∙ puts-front s (formatBytes f) (omega (arith, long))
+      ∙ ap (λ (k : ℕ). formatBytes f ++ drop k s) long)

@@ -15,13 +15,14 @@ use Rattle.le.proofs.Laws.{value-bytes, number-then, Bytes-bytes, Bytes-append}
 use Rattle.chunk.specs.declared.Refusal.{Refusal}
 use Rattle.chunk.specs.declared.Written.the-variants as written
 use Rattle.chunk.specs.Refusals.{given}
+use Rattle.chunk.specs.Writes.{Writes}
 use Rattle.chunk.proofs.Checks.{given-inj, picked}
+use Rattle.chunk.proofs.Outputs.{wrote, refusal-keeps}
 use Rattle.fmt.specs.declared.Format.{Format}
 use Rattle.fmt.specs.Formats.{SUBFORMAT-LOW, SUBFORMAT-HIGH, recordIn, sizeGood, extraGood, formatIn}
-use Rattle.fmt.specs.Writing.{headBytes, extraBytes, formatBytes, writable, formatOut, Writes}
+use Rattle.fmt.specs.Writing.{headBytes, extraBytes, formatBytes, writable, formatOut}
 use Rattle.fmt.proofs.Laws.{all, of40, present, absent, gathered, good, samples, bits-range, size-cases, tag-fits, valid-40, valid-none, Holds, format-given, given-format, bounds, size-is, extra-16, extra-18, extra-40}
 use Rattle.fmt.proofs.Payloads.{Writable, writable-true, writable-of, out-given, out-of, payload-length}
-use Rattle.fmt.proofs.Outputs.{wrote-at-start, refusal-keeps}
 
 -- ---- the bytes that a record does not keep
 
@@ -144,14 +145,12 @@ reads-back f bs h =
     ap formatIn (k .1) ∙ given-format (formatBytes f) f (holds f (writable-true f (k .0)))
 
 -- so is what the writer leaves at the start of its output
-pub output-reads-back : (f : Format) (s t : List ℕ) (n : ℕ) → Writes f s t (written.Bytes n) → formatIn (take n t) ≡ given f
-output-reads-back f s t n h =
-    let k = wrote-at-start s t (formatOut f) n (h .answers) (h .leaves) in
-    ap formatIn (k .at-start) ∙ reads-back f (k .payload) (k .is-given)
+pub output-reads-back : (f : Format) (s t : List ℕ) (n : ℕ) → Writes (formatOut f) s t (written.Bytes n) → formatIn (take n t) ≡ given f
+output-reads-back f s t n h = reads-back f (take n t) (wrote (formatOut f) s t n h .is-given)
 
 -- a refusal changes no byte
-pub refusal-changes-nothing : (f : Format) (s t : List ℕ) (r : Refusal) → Writes f s t (written.Refused r) → t ≡ s
-refusal-changes-nothing f s t r h = refusal-keeps s t (formatOut f) r (h .answers) (h .leaves)
+pub refusal-changes-nothing : (f : Format) (s t : List ℕ) (r : Refusal) → Writes (formatOut f) s t (written.Refused r) → t ≡ s
+refusal-changes-nothing f = refusal-keeps (formatOut f)
 
 -- ---- read, then written
 

@@ -1,15 +1,12 @@
 -- Document 01, "fmt" and "Refusal numbers": the payload that a record is written as, or 16.
 use Prim.Native.Nat.{ℕ, _*_}
-use mathlib.Core.Path.{_≡_}
 use mathlib.Core.Bool.{Bool}
 use mathlib.Core.List.{List, [], _∷_, _++_}
 use lib.Dec.{eqb, ltb}
 use Rattle.le.specs.Number.{bytes}
 use Rattle.le.specs.Choice.{pick, every}
 use Rattle.chunk.specs.declared.Refusal.the-variants.{BadRecord}
-use Rattle.chunk.specs.declared.Written.{Written}
 use Rattle.chunk.specs.Refusals.{Answer, given, check}
-use Rattle.chunk.specs.Writes.{fitting, writtenOf, outputOf}
 use Rattle.fmt.specs.declared.Format.{Format}
 use Rattle.fmt.specs.Formats.{SUBFORMAT-LOW, SUBFORMAT-HIGH, recordGood}
 
@@ -52,8 +49,3 @@ writable f = every (fieldsFit f ∷ recordGood f ∷ eqb (f .byterate) (f .rate 
 unfoldable pub formatOut : Format → Answer (List ℕ)
 unfolding check
 formatOut f = check (writable f) BadRecord (given (formatBytes f))
-
--- what the writer of a record answers and leaves in the output: 16, 15, or the payload at its start
-pub record Writes (f : Format) (entry exit : List ℕ) (r : Written) : Type 0 where
-  pub answers : r ≡ writtenOf (fitting entry (formatOut f))
-  pub leaves : exit ≡ outputOf entry (fitting entry (formatOut f))

@@ -8,9 +8,10 @@ ghost use mathlib.Core.Path.{_≡_};
 ghost use Prim.Native.Nat.{_≤_, _<_};
 ghost use lib.ListN.{length};
 ghost use lib.Seq.{sets};
+ghost use Rattle.chunk.specs.Writes.{Writes};
 ghost use Rattle.fmt.specs.Formats.{sizeGood, bitsGood, samplesGood, validBits, validGood, recordGood, formatIn, readAs};
 ghost use Rattle.fmt.specs.Contracts.{Fields, Longer, restGood};
-ghost use Rattle.fmt.specs.Writing.{headBytes, extraBytes, fieldsFit, writable, Writes};
+ghost use Rattle.fmt.specs.Writing.{headBytes, extraBytes, fieldsFit, writable, formatOut};
 
 // A format record, which keeps the length of its payload.
 pub struct Format {
@@ -239,7 +240,7 @@ fn store_extra(format: Format, out: &mut [u8])
 
 // Writes a record's payload at the start of out. A refusal changes no byte.
 pub fn write(format: Format, out: &mut [u8]) -> Written
-    ensures { λ r. ⌜ Writes format (now (out .entry)) (now (out .exit)) r ⌝ }
+    ensures { λ r. ⌜ Writes (formatOut format) (now (out .entry)) (now (out .exit)) r ⌝ }
 {
     if !is_writable(format) {
         return Written::Refused(Refusal::BadRecord);

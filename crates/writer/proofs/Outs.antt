@@ -1,28 +1,27 @@
 -- The writer's answer and output, one law for each outcome.
 -- Assumes nothing.
-use mathlib.Core.Path.{_≡_, refl, sym, ap, _∙_}
+use mathlib.Core.Path.{_≡_, sym, ap, _∙_}
 use mathlib.Core.Bool.{Bool, true, false, _||_, _&&_}
-use mathlib.Core.List.{List}
+use mathlib.Core.List.{List, _++_}
 use Prim.Native.Nat.{ℕ, _-_, _/_, _≤_, _<_}
 use native.Mathlib.Omega.{arith}
-use lib.ListN.{length}
+use lib.ListN.{length, drop}
 use lib.Seq.{sets}
 use lib.Dec.{leb}
 use borrow.Author.Tests.{le-leb, lt-leb}
-use Rattle.chunk.specs.declared.Refusal.{Refusal}
 use Rattle.chunk.specs.declared.Refusal.the-variants.{BadRecord, TooLarge, ShortOutput}
 use Rattle.chunk.specs.declared.Written.the-variants as written
-use Rattle.chunk.specs.Refusals.{Answer, refused, given}
+use Rattle.chunk.specs.Refusals.{given}
 use Rattle.chunk.specs.Names.{FMT, BEXT, CHNA, DATA}
-use Rattle.chunk.specs.Writes.{fitting, writtenOf, outputOf}
+use Rattle.chunk.specs.Writes.{Writes}
 use Rattle.chunk.proofs.Checks.{check-true, check-false}
+use Rattle.chunk.proofs.Outputs.{puts-front, refuses, lacks-room, writes}
 use Rattle.form.specs.declared.Form.{Form}
 use Rattle.form.specs.Forms.{isWide}
 use Rattle.fmt.specs.declared.Format.{Format}
 use Rattle.fmt.specs.Writing.{writable, formatBytes}
 use Rattle.chna.specs.Records.{padsZeroed}
-use Rattle.bext.proofs.Stores.{puts-front}
-use Rattle.writer.specs.Files.{chunkWith, chunkBytes, optional, ownField, openingBytes, bodyBytes, formSizeFor, fileBytes, inputGood, sizesGood, fileOut, Writes}
+use Rattle.writer.specs.Files.{chunkWith, chunkBytes, optional, ownField, openingBytes, bodyBytes, formSizeFor, fileBytes, inputGood, sizesGood, fileOut}
 use Rattle.writer.specs.Contracts.{fileSize, Puts}
 use Rattle.writer.proofs.Inputs.{good}
 use Rattle.writer.proofs.Sizes.{opening-length, fmt-length, form-size, file-length}
@@ -48,27 +47,18 @@ whole-put form f b c a s s₁ s₂ s₃ s₄ s₅ at₁ at₂ r n own can sixtee
 -- ---- the outcomes
 
 module _ (form : Form) (f : Format) (b c a out : List ℕ) where
-  answered : (x : Answer (List ℕ)) → fitting out (fileOut form f b c a) ≡ x
-      → (exit : List ℕ) → exit ≡ outputOf out x → Writes form f b c a out exit (writtenOf x)
-  answered x e exit l =
-      record { answers = sym (ap writtenOf e); leaves = l ∙ sym (ap (outputOf out) e) }
-
-  refusing : (r : Refusal) → fileOut form f b c a ≡ refused r → Writes form f b c a out out (written.Refused r)
-  unfolding fitting writtenOf outputOf
-  refusing r e = answered (refused r) (ap (fitting out) e) out refl
-
-  pub bad-record : inputGood f b c a ≡ false → Writes form f b c a out out (written.Refused BadRecord)
+  pub bad-record : inputGood f b c a ≡ false → Writes (fileOut form f b c a) out out (written.Refused BadRecord)
   unfolding fileOut
-  bad-record e = refusing BadRecord (check-false (inputGood f b c a) _ _ e)
+  bad-record e = refuses (fileOut form f b c a) out BadRecord (check-false (inputGood f b c a) _ _ e)
 
   module _ (ok : inputGood f b c a ≡ true) where
-    too-large : sizesGood form (formSizeFor form f b c a) (length b) ≡ false → Writes form f b c a out out (written.Refused TooLarge)
+    too-large : sizesGood form (formSizeFor form f b c a) (length b) ≡ false → Writes (fileOut form f b c a) out out (written.Refused TooLarge)
     unfolding fileOut
     too-large e =
-        refusing TooLarge
+        refuses (fileOut form f b c a) out TooLarge
         (check-true (inputGood f b c a) _ _ ok ∙ check-false (sizesGood form (formSizeFor form f b c a) (length b)) _ _ e)
 
-    pub large-bext : 4294967294 < length b → Writes form f b c a out out (written.Refused TooLarge)
+    pub large-bext : 4294967294 < length b → Writes (fileOut form f b c a) out out (written.Refused TooLarge)
     unfolding sizesGood
     large-bext h = too-large (ap (λ (x : Bool). x && (isWide form || leb (formSizeFor form f b c a) 4294967294)) (lt-leb (length b) 4294967294 h))
 
@@ -85,7 +75,7 @@ module _ (form : Form) (f : Format) (b c a out : List ℕ) where
       sized e = bext-fits ∙ ap (λ (n : ℕ). isWide form || leb n 4294967294) size-is ∙ e
 
       pub large-form : (isWide form || leb (fileSize (length b) (length c) (length a) - 8) 4294967294) ≡ false
-          → Writes form f b c a out out (written.Refused TooLarge)
+          → Writes (fileOut form f b c a) out out (written.Refused TooLarge)
       large-form e = too-large (sized e)
 
       module _ (sizes : (isWide form || leb (fileSize (length b) (length c) (length a) - 8) 4294967294) ≡ true) where
@@ -98,22 +88,13 @@ module _ (form : Form) (f : Format) (b c a out : List ℕ) where
         long : length (fileBytes form f b c a) ≡ fileSize (length b) (length c) (length a)
         long = let g = good f b c a ok in file-length form f b c a (g .fmt) (g .sixteen)
 
-        pub lacks-room : length out < fileSize (length b) (length c) (length a) → Writes form f b c a out out (written.Refused ShortOutput)
-        unfolding fitting writtenOf outputOf
-        lacks-room h =
-            answered (refused ShortOutput)
-            (ap (fitting out) out-is
-            ∙ check-false (leb (length (fileBytes form f b c a)) (length out)) ShortOutput _ (lt-leb _ (length out) (omega (arith, long))))
-            out refl
+        pub short-out : length out < fileSize (length b) (length c) (length a) → Writes (fileOut form f b c a) out out (written.Refused ShortOutput)
+        short-out h = lacks-room (fileOut form f b c a) out (fileBytes form f b c a) out-is (omega (arith, long))
 
         pub written-all : (exit : List ℕ) (n : ℕ) → n ≡ fileSize (length b) (length c) (length a) → n ≤ length out
-            → exit ≡ sets out 0 (fileBytes form f b c a) → Writes form f b c a out exit (written.Bytes n)
-        unfolding fitting writtenOf outputOf
+            → exit ≡ sets out 0 (fileBytes form f b c a) → Writes (fileOut form f b c a) out exit (written.Bytes n)
         written-all exit n e h x =
             let bs : List ℕ = fileBytes form f b c a in
-            let fit : fitting out (fileOut form f b c a) ≡ given bs =
-            ap (fitting out) out-is ∙ check-true (leb (length bs) (length out)) ShortOutput _ (le-leb (length bs) (length out) (omega (arith, long))) in
-            record {
-              answers = ap written.Bytes (e ∙ sym long) ∙ sym (ap writtenOf fit);
-              leaves = x ∙ puts-front out bs (omega (arith, long)) ∙ sym (ap (outputOf out) fit);
-            }
+            let l : n ≡ length bs = e ∙ sym long in
+            writes (fileOut form f b c a) out bs out-is exit n l h
+            (x ∙ puts-front out bs (omega arith) ∙ ap (λ (k : ℕ). bs ++ drop k out) (sym l))

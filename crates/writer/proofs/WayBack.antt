@@ -10,19 +10,20 @@ use Rattle.le.specs.Number.{Bytes, number}
 use Rattle.chunk.specs.declared.Refusal.{Refusal}
 use Rattle.chunk.specs.declared.Written.the-variants as written
 use Rattle.chunk.specs.Refusals.{given}
+use Rattle.chunk.specs.Writes.{Writes}
+use Rattle.chunk.proofs.Outputs.{wrote, refusal-keeps}
 use Rattle.form.specs.declared.Form.{Form}
 use Rattle.form.specs.declared.Form.the-variants.{Riff, Rf64, Bw64}
 use Rattle.form.specs.Forms.{isWide}
 use Rattle.fmt.specs.declared.Format.{Format}
 use Rattle.fmt.specs.Formats.{formatIn}
-use Rattle.fmt.proofs.Outputs.{wrote-at-start, refusal-keeps}
 use Rattle.bext.specs.Records.{bextIn}
 use Rattle.chna.specs.Records.{chnaIn, padsZeroed}
 use Rattle.chna.proofs.RoundTrip.{pads-zeroed-reads}
 use Rattle.upgrade.specs.declared.Target.{Target}
 use Rattle.upgrade.specs.Upgrades.{upgraded}
 use Rattle.upgrade.specs.Demand3.{targetForm}
-use Rattle.writer.specs.Files.{fileBytes, fileOut, Writes, chunkSize}
+use Rattle.writer.specs.Files.{fileBytes, fileOut, chunkSize}
 use Rattle.writer.specs.Contracts.{fileSize}
 use Rattle.writer.specs.WayBack.{WayBack}
 use Rattle.writer.proofs.Inputs.{accepted-given}
@@ -98,13 +99,11 @@ way-back form f b c a bs bytes small e =
 
 -- the part that the writer says it wrote
 pub written-way-back : (form : Form) (f : Format) (b c a entry exit : List ℕ) (n : ℕ) → Bytes c → length exit < 256 ^ 8
-    → Writes form f b c a entry exit (written.Bytes n) → WayBack form f b c a (take n exit)
+    → Writes (fileOut form f b c a) entry exit (written.Bytes n) → WayBack form f b c a (take n exit)
 written-way-back form f b c a entry exit n bytes small h =
-    let k = wrote-at-start entry exit (fileOut form f b c a) n (h .answers) (h .leaves) in
-    let fits : length (k .payload) < 256 ^ 8 = omega (arith, ap length (k .at-start), length-take n exit) in
-    subst (WayBack form f b c a) (sym (k .at-start)) (way-back form f b c a (k .payload) bytes fits (k .is-given))
+    way-back form f b c a (take n exit) bytes (omega (arith, length-take n exit)) (wrote (fileOut form f b c a) entry exit n h .is-given)
 
 -- a refusal changes no byte
 pub refusal-changes-nothing : (form : Form) (f : Format) (b c a entry exit : List ℕ) (r : Refusal)
-    → Writes form f b c a entry exit (written.Refused r) → exit ≡ entry
-refusal-changes-nothing form f b c a entry exit r h = refusal-keeps entry exit (fileOut form f b c a) r (h .answers) (h .leaves)
+    → Writes (fileOut form f b c a) entry exit (written.Refused r) → exit ≡ entry
+refusal-changes-nothing form f b c a = refusal-keeps (fileOut form f b c a)

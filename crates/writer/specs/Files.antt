@@ -1,6 +1,5 @@
 -- Document 01, "Writing and upgrading": the file that is written of a form, a format record, the payloads of bext and chna,
 -- and audio; or 16 or 17.
-use mathlib.Core.Path.{_≡_}
 use Prim.Native.Nat.{ℕ, _+_, _/_, _%_}
 use mathlib.Core.Bool.{Bool, true, false, _&&_, _||_}
 use mathlib.Core.List.{List, [], _∷_, _++_}
@@ -9,9 +8,7 @@ use lib.Dec.{eqb, leb}
 use Rattle.le.specs.Number.{bytes}
 use Rattle.le.specs.Choice.{pick, every}
 use Rattle.chunk.specs.declared.Refusal.the-variants.{BadRecord, TooLarge}
-use Rattle.chunk.specs.declared.Written.{Written}
 use Rattle.chunk.specs.Refusals.{Answer, refused, given, check}
-use Rattle.chunk.specs.Writes.{fitting, writtenOf, outputOf}
 use Rattle.chunk.specs.Names.{WAVE, DS64, JUNK, FMT, DATA, BEXT, CHNA}
 use Rattle.chunk.specs.Fields.{ONES}
 use Rattle.form.specs.declared.Form.{Form}
@@ -114,8 +111,3 @@ fileOut form f b c a =
     check (inputGood f b c a) BadRecord
     (check (sizesGood form (formSizeFor form f b c a) (length b)) TooLarge
     (given (fileBytes form f b c a)))
-
--- what the writer answers and leaves in the output: 16, 17, 15, or the file at its start
-pub record Writes (form : Form) (f : Format) (b c a : List ℕ) (entry exit : List ℕ) (r : Written) : Type 0 where
-  pub answers : r ≡ writtenOf (fitting entry (fileOut form f b c a))
-  pub leaves : exit ≡ outputOf entry (fitting entry (fileOut form f b c a))

@@ -17,11 +17,12 @@ ghost use lib.Seq.{sets};
 ghost use lib.Dec.{eqb, leb};
 ghost use Rattle.le.specs.Number.{bytes};
 ghost use Rattle.chunk.specs.Names.{WAVE, BEXT, CHNA, FMT};
+ghost use Rattle.chunk.specs.Writes.{Writes};
 ghost use Rattle.form.specs.Forms.{isWide, LEAST};
 ghost use Rattle.fmt.specs.Writing.{writable, formatBytes};
 ghost use Rattle.bext.specs.Records.{bextIn};
 ghost use Rattle.chna.specs.Records.{chnaIn, padsZeroed};
-ghost use Rattle.writer.specs.Files.{padOf, chunkWith, chunkBytes, optional, ownField, openingBytes, fileBytes, formSizeFor, accepted, inputGood, Writes, chunkSize, optionalSize};
+ghost use Rattle.writer.specs.Files.{padOf, chunkWith, chunkBytes, optional, ownField, openingBytes, fileBytes, formSizeFor, accepted, inputGood, fileOut, chunkSize, optionalSize};
 ghost use Rattle.writer.specs.Contracts.{fileSize, Puts, Ready};
 
 // The largest size that a 32-bit field holds: all ones stands for none.
@@ -272,7 +273,7 @@ pub fn write(
     audio: &[u8],
     out: &mut [u8],
 ) -> Written
-    ensures { λ r. ⌜ Writes form format (now (bext .entry)) (now (chna .entry)) (now (audio .entry)) (now (out .entry)) (now (out .exit)) r ⌝ }
+    ensures { λ r. ⌜ Writes (fileOut form format (now (bext .entry)) (now (chna .entry)) (now (audio .entry))) (now (out .entry)) (now (out .exit)) r ⌝ }
 {
     if !input_good(format, bext, chna, audio) {
         return Written::Refused(Refusal::BadRecord);

@@ -10,7 +10,7 @@ use Rattle.form.specs.Forms.{isWide}
 use Rattle.writer.specs.Contracts.{fileSize}
 use Rattle.writer.proofs.Inputs.{good, chna-short}
 use Rattle.writer.proofs.Sizes.{form-size}
-use Rattle.writer.proofs.Outs.{bad-record, large-bext, large-form, lacks-room, written-all}
+use Rattle.writer.proofs.Outs.{bad-record, large-bext, large-form, short-out, written-all}
 use borrow.Author.Needs.{needs}
 use Rattle.writer.proofs.write.Statement.{statement}
 use Rattle.writer.proofs.write.Tie as tie
@@ -41,7 +41,7 @@ returns-3 : tie.Need-returns-3
 returns-3 c = large-form _ _ _ _ _ _ (sym (c .before .before .before .before .before .input-good .ensures) ∙ not-false _ (c .before .before .before .before .if1 .left)) (omega (arith, c .before .before .before .if2 .left)) (ap (λ (n : ℕ). isWide (c .before .before .before .before .before .before .before .before .before .before .args .form) || leb (n - 8) 4294967294) (sym (c .before .before .file-size .ensures)) ∙ sym (c .before .form-fits .ensures) ∙ not-true _ (c .if3 .taken))
 
 returns-4 : tie.Need-returns-4
-returns-4 c = lacks-room _ _ _ _ _ _ (sym (c .before .before .before .before .before .before .input-good .ensures) ∙ not-false _ (c .before .before .before .before .before .if1 .left)) (omega (arith, c .before .before .before .before .if2 .left)) (ap (λ (n : ℕ). isWide (c .before .before .before .before .before .before .before .before .before .before .before .args .form) || leb (n - 8) 4294967294) (sym (c .before .before .before .file-size .ensures)) ∙ sym (c .before .before .form-fits .ensures) ∙ not-false _ (c .before .if3 .left)) (omega (arith, c .if4 .taken, c .before .before .before .file-size .ensures))
+returns-4 c = short-out _ _ _ _ _ _ (sym (c .before .before .before .before .before .before .input-good .ensures) ∙ not-false _ (c .before .before .before .before .before .if1 .left)) (omega (arith, c .before .before .before .before .if2 .left)) (ap (λ (n : ℕ). isWide (c .before .before .before .before .before .before .before .before .before .before .before .args .form) || leb (n - 8) 4294967294) (sym (c .before .before .before .file-size .ensures)) ∙ sym (c .before .before .form-fits .ensures) ∙ not-false _ (c .before .if3 .left)) (omega (arith, c .if4 .taken, c .before .before .before .file-size .ensures))
 
 sub-put-file : tie.Need-sub-put-file
 unfolding fileSize
