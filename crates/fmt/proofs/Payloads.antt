@@ -1,5 +1,5 @@
--- The payload of a record that can be written: it has as many bytes as the record's size says, and what the writer then
--- answers and leaves.
+-- The payload of a record: how long it is, and what storing it leaves; and of a record that can be written, whose payload has
+-- as many bytes as its size says, what the writer answers.
 -- Assumes nothing.
 use mathlib.Core.Path.{_≡_, refl, sym, ap, _∙_}
 use mathlib.Core.Bool.{true, false}
@@ -17,9 +17,9 @@ use Rattle.le.proofs.Laws.{sets-append}
 use Rattle.chunk.specs.declared.Refusal.the-variants.{BadRecord, ShortOutput}
 use Rattle.chunk.specs.declared.Written.the-variants as written
 use Rattle.chunk.specs.Refusals.{given}
-use Rattle.chunk.specs.Writes.{Writes}
+use Rattle.chunk.specs.Writes.{fitting, outputOf, Writes}
 use Rattle.chunk.proofs.Checks.{check-true, check-false, check-given, given-inj}
-use Rattle.chunk.proofs.Outputs.{puts-front, refuses, lacks-room, writes}
+use Rattle.chunk.proofs.Outputs.{puts-front, no-room, room, refuses, lacks-room, writes}
 use Rattle.fmt.specs.declared.Format.{Format}
 use Rattle.fmt.specs.Formats.{recordGood}
 use Rattle.fmt.specs.Writing.{headBytes, extraBytes, formatBytes, fieldsFit, writable, formatOut}
@@ -31,18 +31,28 @@ head-length : (f : Format) → length (headBytes f) ≡ 16
 unfolding headBytes bytes
 head-length f = refl
 
-extra-length : (f : Format) → recordGood f ≡ true → 16 + length (extraBytes f) ≡ f .size
+pub long-all : (f : Format) → length (formatBytes f) ≡ 16 + length (extraBytes f)
+unfolding formatBytes
+long-all f = omega (arith, length-append (headBytes f) (extraBytes f), head-length f)
+
+pub long-16 : (f : Format) → (f .size ≡ 18 → ⊥) → (f .size ≡ 40 → ⊥) → length (formatBytes f) ≡ 16
+long-16 f h k = omega (arith, long-all f, ap length (extra-16 f h k))
+
+pub long-18 : (f : Format) → f .size ≡ 18 → length (formatBytes f) ≡ 18
 unfolding bytes
-extra-length f h = cases (size-cases _ _ (good f h .size))
-  where
-    cases : (f .size ≡ 16) ⊎ ((f .size ≡ 18) ⊎ (f .size ≡ 40)) → 16 + length (extraBytes f) ≡ f .size
-    cases (inl e) = omega (arith, ap length (extra-16 f (omega arith) (omega arith)))
-    cases (inr (inl e)) = omega (arith, ap length (extra-18 f e))
-    cases (inr (inr e)) = omega (arith, ap length (extra-40 f e))
+long-18 f e = omega (arith, long-all f, ap length (extra-18 f e))
+
+pub long-40 : (f : Format) → f .size ≡ 40 → length (formatBytes f) ≡ 40
+unfolding bytes
+long-40 f e = omega (arith, long-all f, ap length (extra-40 f e))
 
 pub payload-length : (f : Format) → recordGood f ≡ true → length (formatBytes f) ≡ f .size
-unfolding formatBytes
-payload-length f h = omega (arith, length-append (headBytes f) (extraBytes f), head-length f, extra-length f h)
+payload-length f h = cases (size-cases _ _ (good f h .size))
+  where
+    cases : (f .size ≡ 16) ⊎ ((f .size ≡ 18) ⊎ (f .size ≡ 40)) → length (formatBytes f) ≡ f .size
+    cases (inl e) = long-16 f (omega arith) (omega arith) ∙ sym e
+    cases (inr (inl e)) = long-18 f e ∙ sym e
+    cases (inr (inr e)) = long-40 f e ∙ sym e
 
 -- ---- records that can be written
 
@@ -74,8 +84,22 @@ pub out-of : (f : Format) → writable f ≡ true → formatOut f ≡ given (for
 unfolding formatOut
 out-of f h = check-true (writable f) BadRecord (given (formatBytes f)) h
 
-pub size-least : (f : Format) → writable f ≡ true → 16 ≤ f .size
-size-least f h = omega (arith, extra-length f (writable-true f h .good))
+-- ---- what is stored
+
+module _ (f : Format) (s : List ℕ) where
+  pub stores-none : length s < length (formatBytes f) → s ≡ outputOf s (fitting s (given (formatBytes f)))
+  unfolding outputOf
+  stores-none h = sym (ap (outputOf s) (no-room (formatBytes f) s h))
+
+  pub stores-all : (t : List ℕ) → length (formatBytes f) ≤ length s → t ≡ sets (sets s 0 (headBytes f)) 16 (extraBytes f)
+      → t ≡ outputOf s (fitting s (given (formatBytes f)))
+  unfolding outputOf formatBytes
+  stores-all t h e =
+      e
+      ∙ ap (λ (k : ℕ). sets (sets s 0 (headBytes f)) k (extraBytes f)) (sym (head-length f) ∙ sym (zero-add _))
+      ∙ sym (sets-append (headBytes f) (extraBytes f) s 0)
+      ∙ puts-front s (formatBytes f) h
+      ∙ sym (ap (outputOf s) (room (formatBytes f) s h))
 
 -- ---- what the writer answers and leaves
 
@@ -90,13 +114,9 @@ module _ (f : Format) (s : List ℕ) (can : writable f ≡ true) where
   pub refuse15 : length s < f .size → Writes (formatOut f) s s (written.Refused ShortOutput)
   refuse15 h = lacks-room (formatOut f) s (formatBytes f) (out-of f can) (omega (arith, long))
 
-  pub wrote : (t : List ℕ) → f .size ≤ length s → t ≡ sets (sets s 0 (headBytes f)) 16 (extraBytes f)
+  pub wrote : (t : List ℕ) → f .size ≤ length s → t ≡ outputOf s (fitting s (given (formatBytes f)))
       → Writes (formatOut f) s t (written.Bytes (f .size))
-  unfolding formatBytes
+  unfolding outputOf
   wrote t h e =
       writes (formatOut f) s (formatBytes f) (out-of f can) t (f .size) (sym long) h
-      (e
-      ∙ ap (λ (k : ℕ). sets (sets s 0 (headBytes f)) k (extraBytes f)) (sym (head-length f) ∙ sym (zero-add _))
-      ∙ sym (sets-append (headBytes f) (extraBytes f) s 0)
-      ∙ puts-front s (formatBytes f) (omega (arith, long))
-      ∙ ap (λ (k : ℕ). formatBytes f ++ drop k s) long)
+      (e ∙ ap (outputOf s) (room (formatBytes f) s (omega (arith, long))) ∙ ap (λ (k : ℕ). formatBytes f ++ drop k s) long)

@@ -8,10 +8,11 @@ ghost use mathlib.Core.Path.{_≡_};
 ghost use Prim.Native.Nat.{_≤_, _<_};
 ghost use lib.ListN.{length};
 ghost use lib.Seq.{sets};
-ghost use Rattle.chunk.specs.Writes.{Writes};
+ghost use Rattle.chunk.specs.Refusals.{given};
+ghost use Rattle.chunk.specs.Writes.{fitting, outputOf, Writes};
 ghost use Rattle.fmt.specs.Formats.{sizeGood, bitsGood, samplesGood, validBits, validGood, recordGood, formatIn, readAs};
 ghost use Rattle.fmt.specs.Contracts.{Fields, Longer, restGood};
-ghost use Rattle.fmt.specs.Writing.{headBytes, extraBytes, fieldsFit, writable, formatOut};
+ghost use Rattle.fmt.specs.Writing.{headBytes, extraBytes, formatBytes, fieldsFit, writable, formatOut};
 
 // A format record, which keeps the length of its payload.
 pub struct Format {
@@ -221,7 +222,7 @@ fn store_head(format: Format, out: &mut [u8])
 
 // Stores what follows the first 16 bytes.
 fn store_extra(format: Format, out: &mut [u8])
-    requires { ⌜ (16 ≤ length (now out)) × (format .size ≤ length (now out)) ⌝ }
+    requires { ⌜ length (formatBytes format) ≤ length (now out) ⌝ }
     ensures { λ _. ⌜ now (out .exit) ≡ sets (now (out .entry)) 16 (extraBytes format) ⌝ }
 {
     let size = format.size;
@@ -238,6 +239,30 @@ fn store_extra(format: Format, out: &mut [u8])
     }
 }
 
+// How many bytes a record's payload has.
+fn payload_length(format: Format) -> usize
+    ensures { λ r. ⌜ r ≡ length (formatBytes format) ⌝ }
+{
+    let size = format.size;
+    match size {
+        18 => 18,
+        40 => 40,
+        _ => 16,
+    }
+}
+
+// Stores a record's payload at the start of out, or nothing where out is too short for it. It judges nothing: that is
+// is_writable's part, and the payload of a size that no record has is of 16 bytes.
+pub fn store(format: Format, out: &mut [u8])
+    ensures { λ _. ⌜ now (out .exit) ≡ outputOf (now (out .entry)) (fitting (now (out .entry)) (given (formatBytes format))) ⌝ }
+{
+    if out.len() < payload_length(format) {
+        return;
+    }
+    store_head(format, out);
+    store_extra(format, out);
+}
+
 // Writes a record's payload at the start of out. A refusal changes no byte.
 pub fn write(format: Format, out: &mut [u8]) -> Written
     ensures { λ r. ⌜ Writes (formatOut format) (now (out .entry)) (now (out .exit)) r ⌝ }
@@ -249,7 +274,6 @@ pub fn write(format: Format, out: &mut [u8]) -> Written
     if (out.len() as u64) < size {
         return Written::Refused(Refusal::ShortOutput);
     }
-    store_head(format, out);
-    store_extra(format, out);
+    store(format, out);
     Written::Bytes(size)
 }

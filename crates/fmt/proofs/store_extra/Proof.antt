@@ -2,7 +2,9 @@
 -- Assumes nothing.
 use mathlib.Core.Path.{_≡_, _∙_, ap, sym}
 use mathlib.Core.List.{List}
-use Prim.Native.Nat.{ℕ}
+use Prim.Native.Nat.{ℕ, _≤_}
+use native.Mathlib.Omega.{arith}
+use lib.ListN.{length}
 use lib.Seq.{sets}
 use borrow.Author.Needs.{needs}
 use Rattle.le.specs.Number.{stored}
@@ -11,6 +13,7 @@ use Rattle.fmt.specs.declared.Format.{Format}
 use Rattle.fmt.specs.Formats.{SUBFORMAT-LOW, SUBFORMAT-HIGH}
 use Rattle.fmt.specs.Writing.{extraBytes}
 use Rattle.fmt.proofs.Laws.{extra-16, extra-18, extra-40}
+use Rattle.fmt.proofs.Payloads.{long-18, long-40}
 use Rattle.fmt.proofs.store_extra.Statement.{statement}
 use Rattle.fmt.proofs.store_extra.Tie as tie
 
@@ -27,7 +30,7 @@ laid f s h =
     ∙ stored-then 8 24 SUBFORMAT-LOW _ _
 
 store2-requires : tie.Need-store2-requires
-store2-requires c κs = search needs
+store2-requires c κs = omega (arith, long-18 (c .before .before .before .args .format) (c .before .if1 .taken))
 
 same-length : tie.Need-same-length
 same-length c = search needs
@@ -36,20 +39,24 @@ returns : tie.Need-returns
 unfolding stored
 returns c = c .before .before .store2 .ensures ∙ sym (ap (sets _ 16) (extra-18 _ (c .before .before .before .before .if1 .taken)))
 
+-- a record of 40 bytes has room for them
+wide : (c : tie.Then2) → 40 ≤ length (c .before .before .before .args .out .now)
+wide c = omega (arith, long-40 (c .before .before .before .args .format) (c .if2 .taken))
+
 store2-requires-2 : tie.Need-store2-requires-2
-store2-requires-2 c κs = search needs
+store2-requires-2 c κs = omega (arith, wide (c .before))
 
 store2-requires-3 : tie.Need-store2-requires-3
-store2-requires-3 c κs = search needs
+store2-requires-3 c κs = omega (arith, wide (c .before .before .before .before .before))
 
 store4-requires : tie.Need-store4-requires
-store4-requires c κs = search needs
+store4-requires c κs = omega (arith, wide (c .before .before .before .before .before .before .before .before .before))
 
 store8-requires : tie.Need-store8-requires
-store8-requires c κs = search needs
+store8-requires c κs = omega (arith, wide (c .before .before .before .before .before .before .before .before .before .before .before .before .before))
 
 store8-requires-2 : tie.Need-store8-requires-2
-store8-requires-2 c κs = search needs
+store8-requires-2 c κs = omega (arith, wide (c .before .before .before .before .before .before .before .before .before .before .before .before .before .before .before .before .before))
 
 same-length-2 : tie.Need-same-length-2
 same-length-2 c = search needs
