@@ -1,6 +1,7 @@
 pub mod Marks
 pub mod Counts
 pub mod Answers
+pub mod Entries
 pub mod Pads
 pub mod Payloads
 pub mod Written

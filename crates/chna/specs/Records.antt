@@ -1,14 +1,14 @@
 -- Document 01, "chna" (002 8): the record that a payload holds, or 14; the payload of a record, or 16.
-use Prim.Native.Nat.{ℕ, zero, suc, _-_, _/_, _%_}
+use Prim.Native.Nat.{ℕ, zero, suc, _+_, _-_, _*_, _/_, _%_}
 use mathlib.Core.Bool.{Bool, true, false, _&&_}
 use mathlib.Core.List.{List, [], _∷_, _++_}
 use lib.ListN.{length, take, drop, set, replicate}
 use lib.Dec.{eqb, leb}
-use Rattle.le.specs.Number.{bytes, number}
+use Rattle.le.specs.Number.{bytes, field, number}
 use Rattle.le.specs.Choice.{pick, every}
 use Rattle.chunk.specs.declared.Refusal.the-variants.{BadChna, BadRecord}
 use Rattle.chunk.specs.Refusals.{refusalNumber, Answer, refused, given, check}
-use Rattle.chna_entry.specs.Entries.{Entry, unused, used, entryIn, entryGood}
+use Rattle.chna_entry.specs.Entries.{Entry, unused, used, entryIn, wholeEntry, entryGood}
 use Rattle.chna.specs.declared.Chna.{Chna}
 use Rattle.chna.specs.declared.Reading.{Reading}
 use Rattle.chna.specs.declared.Reading.the-variants as reading
@@ -22,6 +22,10 @@ entriesAt (suc n) s = entryIn (take 40 s) ∷ entriesAt n (drop 40 s)
 
 unfoldable pub entriesIn : List ℕ → List Entry
 entriesIn s = entriesAt (length s / 40) s
+
+-- "then N entries of 40 bytes": entry i of a payload. One whose 40 bytes don't all lie in it isn't there, and so not used.
+unfoldable pub entryAt : ℕ → List ℕ → Entry
+entryAt i p = wholeEntry (field 40 (4 + i * 40) p)
 
 unfoldable pub entriesGood : ℕ → List Entry → Bool
 unfolding pick

@@ -1,7 +1,8 @@
 // The chna record: which channel carries which part of the audio's description (002 8).
 //
 // A payload is the track count 2 and the UID count 2, then entries of 40 bytes (chna_entry). The record's entries stay in the
-// bytes that were lent.
+// bytes that were lent; entry takes out one.
+use chna_entry::Entry;
 use chunk::Refusal;
 use chunk::Written;
 ghost use mathlib.Core.Path.{_≡_};
@@ -9,7 +10,8 @@ ghost use Prim.Native.Nat.{_/_, _%_, _^_, _<_};
 ghost use lib.Bits.{bitOr};
 ghost use Rattle.chunk.specs.Refusals.{given};
 ghost use Rattle.chunk.specs.Writes.{fitting, outputOf, Writes};
-ghost use Rattle.chna.specs.Records.{wholeOf, wholeGood, chnaIn, readAs, chnaFrom, padsZeroed};
+ghost use Rattle.chna_entry.specs.Entries.{valueOf};
+ghost use Rattle.chna.specs.Records.{entryAt, wholeOf, wholeGood, chnaIn, readAs, chnaFrom, padsZeroed};
 
 // A record: its two counts and how many entries it has.
 pub struct Chna {
@@ -108,6 +110,22 @@ pub fn read(payload: &[u8], channels: u64) -> Reading
         uids,
         entries: (size / Chna::ENTRY) as u64,
     })
+}
+
+// Entry i, counted from 0, of a payload, which may be any bytes at all. One that isn't there is not used. It judges nothing:
+// that is read's part.
+pub fn entry(payload: &[u8], i: usize) -> Entry
+    ensures { λ r. ⌜ r ≡ valueOf (entryAt i (now (payload .entry))) ⌝ }
+{
+    if payload.len() < 4 {
+        return Entry::unused();
+    }
+    if (payload.len() - 4) / Chna::ENTRY <= i {
+        return Entry::unused();
+    }
+    let at = 4 + i * Chna::ENTRY;
+    let end = at + Chna::ENTRY;
+    Entry::read(&payload[at..end])
 }
 
 // Sets the pad of each whole entry of a payload to zero: its last byte, so the first stands at 43.

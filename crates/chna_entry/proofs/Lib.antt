@@ -1,3 +1,4 @@
 pub mod Patterns
 pub mod Entries
 pub mod Parts
+pub mod Values

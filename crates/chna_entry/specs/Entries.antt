@@ -1,10 +1,12 @@
 -- Document 01, "chna" (002 8): an entry, and the rules of a used one.
 use Prim.Native.Nat.{ℕ}
-use mathlib.Core.Bool.{Bool, true, _||_}
+use mathlib.Core.Bool.{Bool, true, false, _||_}
 use mathlib.Core.List.{List, [], _∷_}
-use lib.Dec.{leb, ltb}
+use lib.ListN.{length, replicate}
+use lib.Dec.{eqb, leb, ltb}
 use Rattle.le.specs.Number.{field, number}
 use Rattle.le.specs.Choice.{pick, every}
+use Rattle.chna_entry.specs.declared.Entry.{Entry as Value}
 use Rattle.chna_entry.specs.Ids.{fits, UNUSED, UID, TRACK, CHANNEL, PACK, NOPACK}
 
 -- what a used entry says: its track index, UID, track reference and pack reference
@@ -49,3 +51,29 @@ usedGood channels u =
 unfoldable pub entryGood : ℕ → Entry → Bool
 entryGood channels unused = true
 entryGood channels (used u) = usedGood channels u
+
+-- ---- an entry by value
+
+-- "entries of 40 bytes": any other number of bytes is no entry, and so not used
+unfoldable pub wholeEntry : List ℕ → Entry
+unfolding pick
+wholeEntry e = pick (eqb (length e) 40) (entryIn e) unused
+
+-- the code's value: what a used one says, or zeros
+unfoldable pub valueOf : Entry → Value
+valueOf unused =
+    record {
+      used = false;
+      index = 0;
+      uid = replicate 12 0;
+      track = replicate 14 0;
+      pack = replicate 11 0;
+    }
+valueOf (used u) =
+    record {
+      used = true;
+      index = u .index;
+      uid = u .uid;
+      track = u .track;
+      pack = u .pack;
+    }

@@ -8,11 +8,23 @@ ghost use Prim.Native.Nat.{_+_, _≤_};
 ghost use lib.ListN.{length};
 ghost use Rattle.le.specs.Number.{field};
 ghost use Rattle.chna_entry.specs.Ids.{isHex, fits, UNUSED, UID, TRACK, CHANNEL, PACK, NOPACK};
-ghost use Rattle.chna_entry.specs.Entries.{usedIn, usedGood};
+ghost use Rattle.chna_entry.specs.Entries.{unused, usedIn, usedGood, wholeEntry, valueOf};
 ghost use Rattle.chna_entry.specs.Contracts.{hexes};
 
 // The bytes of an entry.
 pub const SIZE: usize = 40;
+
+// An entry by value. One that is not used has zeros for the rest.
+pub struct Entry {
+    pub used: bool,
+    // The track index.
+    pub index: u64,
+    pub uid: [u8; 12],
+    // The track reference.
+    pub track: [u8; 14],
+    // The pack reference.
+    pub pack: [u8; 11],
+}
 
 // What the identifiers start with, and how a channel reference ends, each as a number.
 const ATU: u64 = 0x5f55_5441;
@@ -186,4 +198,53 @@ pub fn used_good(e: &[u8], channels: u64) -> bool
         return true;
     }
     no_pack(e)
+}
+
+// Fills out with the bytes at a place.
+fn copy_part(s: &[u8], at: usize, out: &mut [u8])
+    requires { ⌜ at + length (now out) ≤ length (now s) ⌝ }
+    ensures { λ _. ⌜ now (out .exit) ≡ field (length (now (out .entry))) at (now (s .entry)) ⌝ }
+{
+    let end = at + out.len();
+    bytes::copy(&s[at..end], out);
+}
+
+impl Entry {
+    // An entry that is not used.
+    pub fn unused() -> Entry
+        ensures { λ r. ⌜ r ≡ valueOf unused ⌝ }
+    {
+        Entry {
+            used: false,
+            index: 0,
+            uid: [0; 12],
+            track: [0; 14],
+            pack: [0; 11],
+        }
+    }
+
+    // The entry in 40 bytes, good or not. Any other number of bytes is no entry, and so not used.
+    pub fn read(e: &[u8]) -> Entry
+        ensures { λ r. ⌜ r ≡ valueOf (wholeEntry (now (e .entry))) ⌝ }
+    {
+        if e.len() != SIZE {
+            return Entry::unused();
+        }
+        if is_unused(e) {
+            return Entry::unused();
+        }
+        let mut uid = [0u8; 12];
+        copy_part(e, 2, &mut uid);
+        let mut track = [0u8; 14];
+        copy_part(e, 14, &mut track);
+        let mut pack = [0u8; 11];
+        copy_part(e, 28, &mut pack);
+        Entry {
+            used: true,
+            index: le::read2(e, 0),
+            uid,
+            track,
+            pack,
+        }
+    }
 }
