@@ -9,11 +9,15 @@ use native.Mathlib.Omega.{arith}
 use lib.ListN.{length, take, drop, replicate, length-drop}
 use lib.Seq.{take-add}
 use lib.Dec.{eqb}
-use borrow.Author.Tests.{leb-true, eqb-true}
+use borrow.Author.Tests.{leb-true, eq-eqb, eqb-true}
 use Rattle.le.specs.Number.{Bytes, bytes, field, number, value}
+use Rattle.chunk.specs.declared.Refusal.{Refusal}
 use Rattle.chunk.specs.declared.Refusal.the-variants.{BadChna, BadRecord}
+use Rattle.chunk.specs.declared.Written.the-variants as written
 use Rattle.chunk.specs.Refusals.{refused, given, check}
+use Rattle.chunk.specs.Writes.{Writes}
 use Rattle.chunk.proofs.Checks.{given-inj, check-given, check-true, and-true}
+use Rattle.chunk.proofs.Outputs.{wrote, refusal-keeps}
 use Rattle.chna_entry.specs.Ids.{isHex, fitsOne, fits, codes}
 use Rattle.chna_entry.specs.Entries.{entryIn, entryGood, usedIn, usedGood}
 use Rattle.chna.specs.Records.{entriesIn, entriesAt, entriesGood, indices, different, occurs, padsAt, Whole, wholeOf, wholeIn, wholeGood, lengthGood, chnaIn, payloadOf, chnaOut, chnaFrom, padsOff, padsZeroed}
@@ -40,6 +44,18 @@ unfolding chnaFrom
 bytes-read-back channels tracks uids s bs e =
     written-reads-back channels (wholeOf tracks uids s) bs (check-given (eqb (length s % 40) 0) BadRecord _ bs e .1)
 
+-- and the bytes that the writer says it wrote
+pub output-reads-back : (channels tracks uids : ℕ) (s entry exit : List ℕ) (n : ℕ)
+    → Writes (chnaFrom channels tracks uids s) entry exit (written.Bytes n)
+    → chnaIn channels (take n exit) ≡ given (wholeOf tracks uids s)
+output-reads-back channels tracks uids s entry exit n w =
+    bytes-read-back channels tracks uids s (take n exit) (wrote _ entry exit n w .is-given)
+
+-- a writer that refuses leaves its output as it was
+pub refusal-changes-nothing : (channels tracks uids : ℕ) (s entry exit : List ℕ) (r : Refusal)
+    → Writes (chnaFrom channels tracks uids s) entry exit (written.Refused r) → exit ≡ entry
+refusal-changes-nothing channels tracks uids s entry exit r w = refusal-keeps _ entry exit r w
+
 -- ---- reading, then writing
 
 -- four bytes are the two counts
@@ -65,6 +81,17 @@ read-writes-back channels p w h e =
     ∙ ap given
     (payload-bytes (number 2 0 p) (number 2 2 p) (drop 4 p) (Bytes-drop 4 p h) (omega (arith, length-drop 4 p, n .1))
     ∙ ap (λ (l : List ℕ). l ++ padsOff (drop 4 p)) (counts p h (n .0))))
+
+-- also from the counts and the entries' bytes, as the code's writer takes them
+pub read-then-written : (channels : ℕ) (p : List ℕ) (w : Whole) → Bytes p → chnaIn channels p ≡ given w
+    → chnaFrom channels (w .tracks) (w .uids) (drop 4 p) ≡ given (padsZeroed p)
+unfolding chnaFrom wholeIn wholeOf
+read-then-written channels p w h e =
+    let a = accepted channels p w e in
+    let whole : length (drop 4 p) % 40 ≡ 0 = omega (arith, length-drop 4 p, long (length p) (a .long) .1) in
+    check-true _ BadRecord _ (eq-eqb (length (drop 4 p) % 40) 0 whole)
+    ∙ ap (chnaOut channels) (subst (λ (x : Whole). wholeOf (x .tracks) (x .uids) (drop 4 p) ≡ x) (a .is) refl)
+    ∙ read-writes-back channels p w h e
 
 -- so a payload with its pads zeroed holds the same record
 pub pads-zeroed-reads : (channels : ℕ) (p : List ℕ) (w : Whole) → Bytes p → chnaIn channels p ≡ given w
