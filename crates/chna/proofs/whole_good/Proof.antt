@@ -46,10 +46,10 @@ counted c =
     (subst (λ (n : ℕ). Counted (a .channels) (a .entries .now) n (l .marks) (l .different) (l .used)) k (l .inv))
 
 returns : tie.Need-returns Inv-loop μ-loop
-returns c = sym (too-many _ _ _ _ (c .if1 .taken))
+returns c = sym (too-many _ _ _ _ (omega arith))
 
 loop-holds : tie.Need-loop-holds Inv-loop μ-loop
-loop-holds c = at-end _ _ (c .if1 .left)
+loop-holds c = at-end _ _ (omega arith)
 
 sub-left : tie.Need-sub-left Inv-loop μ-loop
 sub-left c = omega arith

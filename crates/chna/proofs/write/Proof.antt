@@ -80,7 +80,7 @@ returns-4 c =
     (writable (a .channels) (a .tracks) (a .uids) (a .entries .now)
     (λ i. omega (arith, judged .before .before .before .before .before .shared-slice-known .given i)) (judged .before .before .before .if1 .left)
     (sym (w .ensures) ∙ not-false (w .result) (judged .before .if2 .left)))
-    _ _ (sym (written-length (a .tracks) (a .uids) (a .entries .now))) (judged .if3 .left)
+    _ _ (sym (written-length (a .tracks) (a .uids) (a .entries .now))) (omega (arith, judged .if3 .left))
     (laid-zeroed (bytes 2 (a .tracks) ++ bytes 2 (a .uids)) (a .entries .now) (a .out .now) (two .last .0) _ (four-bytes (a .tracks) (a .uids))
     (two .ensures ∙ ap (stored 2 2 (a .uids)) (c .before .before .before .before .before .before .before .before .before .before .before .before .before .before .store2 .ensures) ∙ counts-stored (a .tracks) (a .uids) (a .out .now) (omega (arith, judged .if3 .left)))
     (c .before .before .before .before .before .before .copy .ensures .1)
