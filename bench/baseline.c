@@ -3,12 +3,14 @@
  * instruction counts are held against. Not part of the product.
  *
  * Scan, walk, count and upgrade are as strong as we can write them: one pass, one load and one test for
- * an ordinary header, names compared only where the first byte is one of b to f.
+ * an ordinary header, names compared only where the first byte is one of b to f. bext looks for zeros by
+ * 128 bytes and tests them by 32.
  *
  * With -DBASELINE_AS_SYMPHEDRA it has the library's names, to stand in for it.
  */
 #include "baseline.h"
 
+#include <emmintrin.h>
 #include <string.h>
 
 #define INLINE static inline __attribute__((always_inline))
@@ -89,22 +91,22 @@ static inline void copy(uint8_t *to, const uint8_t *from, size_t n)
         memcpy(to, from, n);
 }
 
+/* By 32 bytes, then by 8; the last 8 overlap those before them. */
 static inline int all_zero(const uint8_t *p, size_t n)
 {
-    while (n >= 8) {
-        uint64_t word;
-        memcpy(&word, p, 8);
-        if (word)
-            return 0;
-        p += 8;
-        n -= 8;
+    if (n < 8) {
+        while (n && *p == 0)
+            p++, n--;
+        return n == 0;
     }
-    while (n) {
-        if (*p++)
+    const uint8_t *last = p + n - 8;
+    for (; n > 32; p += 32, n -= 32)
+        if (le64(p) | le64(p + 8) | le64(p + 16) | le64(p + 24))
             return 0;
-        n--;
-    }
-    return 1;
+    for (; p < last; p += 8)
+        if (le64(p))
+            return 0;
+    return le64(last) == 0;
 }
 
 /* ---- fmt ---- */
@@ -190,14 +192,55 @@ static inline void fmt_put(uint8_t *p, const struct fmt *r)
 
 /* ---- bext ---- */
 
+static inline __m128i load16(const uint8_t *p)
+{
+    return _mm_loadu_si128((const __m128i *)p);
+}
+
+/* The zeros among 16 bytes, a bit for each, the first lowest. */
+static inline unsigned zeros(__m128i bytes)
+{
+    return (unsigned)_mm_movemask_epi8(_mm_cmpeq_epi8(bytes, _mm_setzero_si128()));
+}
+
+/* The least of each four of 64 bytes. */
+static inline __m128i least64(const uint8_t *p)
+{
+    return _mm_min_epu8(_mm_min_epu8(load16(p), load16(p + 16)),
+                        _mm_min_epu8(load16(p + 32), load16(p + 48)));
+}
+
+/* Whether a zero is among 128 bytes: the least of them is. */
+static inline int zero_in_128(const uint8_t *p)
+{
+    return zeros(_mm_min_epu8(least64(p), least64(p + 64))) != 0;
+}
+
+/* Where the first zero stands, or n where none does. The last 128 bytes overlap those before them. */
+static inline size_t first_zero(const uint8_t *p, size_t n)
+{
+    size_t i = 0;
+    if (n >= 128) {
+        while (i <= n - 128 && !zero_in_128(p + i))
+            i += 128;
+        if (i > n - 128 && (i == n || !zero_in_128(p + n - 128)))
+            return n;
+    }
+    for (; i + 16 <= n; i += 16) {
+        unsigned found = zeros(load16(p + i));
+        if (found)
+            return i + (size_t)__builtin_ctz(found);
+    }
+    while (i < n && p[i])
+        i++;
+    return i;
+}
+
 /* A text's length, or -1 where a byte after its first zero isn't zero. */
 static inline int64_t text_length(const uint8_t *p, size_t max)
 {
-    const uint8_t *end = max ? memchr(p, 0, max) : NULL;
-    if (!end)
-        return (int64_t)max;
-    size_t n = (size_t)(end - p);
-    return all_zero(end, max - n) ? (int64_t)n : -1;
+    size_t n = first_zero(p, max);
+    return all_zero(p + n, max - n) ? (int64_t)n : -1;
 }
 
 /* Two digits as a number, or 100 or more. */
@@ -234,8 +277,8 @@ static inline int bext_read(const uint8_t *p, size_t len, uint64_t *out)
     int64_t reference = text_length(p + REFERENCE, 32);
     if (description < 0 || originator < 0 || reference < 0)
         return 0;
-    int date_set = !all_zero(p + DATE, 10), time_set = !all_zero(p + TIME, 8);
-    if ((date_set && !date_good(p + DATE)) || (time_set && !time_good(p + TIME)))
+    int date_set = date_good(p + DATE), time_set = time_good(p + TIME);
+    if ((!date_set && !all_zero(p + DATE, 10)) || (!time_set && !all_zero(p + TIME, 8)))
         return 0;
     uint16_t version = le16(p + VERSION);
     if (version == 0 && !all_zero(p + REST, 254))

@@ -136,6 +136,18 @@ static void make_bext(uint8_t *p)
     memcpy(p + 330, "18:30:00", 8);
 }
 
+enum { FULL_LEN = 602 + 1000 };
+
+/* Texts that fill their places, and a coding history of 1,000 bytes. */
+static void make_full_bext(uint8_t *p)
+{
+    make_bext(p);
+    memset(p, 'd', 256);
+    memset(p + 256, 'o', 32);
+    memset(p + 288, 'r', 32);
+    memset(p + 602, 'h', FULL_LEN - 602);
+}
+
 enum { CHNA_LEN = 4 + 40 * 1024, CHANNELS = 64 };
 
 static void make_chna(uint8_t *p, unsigned tracks, unsigned entries)
@@ -277,6 +289,9 @@ static void counts(void)
     make_bext(file);
     count_words("read_bext", "602 bytes", library.read_bext, baseline.read_bext, file, 602,
                 SYMPHEDRA_BEXT_WORDS, 0);
+    make_full_bext(file);
+    count_words("read_bext", "full texts, history of 1,000", library.read_bext, baseline.read_bext, file,
+                FULL_LEN, SYMPHEDRA_BEXT_WORDS, 0);
     make_chna(chna, CHANNELS, 1024);
     count_chna("read_chna, 1,024 entries", chna);
     free(file);
