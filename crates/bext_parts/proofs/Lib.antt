@@ -1,4 +1,5 @@
 pub mod Tests
+pub mod Runs
 pub mod Texts
 pub mod Digits
 pub mod Stamps

@@ -4,10 +4,11 @@
 // bytes.
 ghost use mathlib.Core.Path.{_≡_};
 ghost use mathlib.Core.Bool.{_||_};
-ghost use Prim.Native.Nat.{_+_, _≤_};
+ghost use Prim.Native.Nat.{_+_, _≤_, _<_};
 ghost use lib.ListN.{length, drop};
+ghost use lib.Dec.{ltb};
 ghost use Rattle.bext_parts.specs.Parts.{allZero, textOf, textGood, isDigit, twoDigits, isSeparator, dateGood, timeGood, setOf, restGood, textGiven, dateGiven, timeGiven, restOf, restGiven};
-ghost use Rattle.bext_parts.specs.Contracts.{partOf};
+ghost use Rattle.bext_parts.specs.Contracts.{partOf, runEnd, Near};
 
 // What a part of a payload holds.
 pub enum Part {
@@ -17,18 +18,43 @@ pub enum Part {
     Bad,
 }
 
+// Whether a run of zeros, or of other bytes, ends within the n bytes at a place. All n are looked at, so that where n is
+// known they are compared at once.
+fn ends_in(s: &[u8], at: usize, n: usize, zeros: bool) -> bool
+    requires { ⌜ at + n ≤ length (now s) ⌝ }
+    ensures { λ r. ⌜ r ≡ ltb (runEnd zeros (now (s .entry)) at) (at + n) ⌝ }
+{
+    let mut met = false;
+    let mut j = 0;
+    while j < n {
+        met = met | ((s[at + j] == 0) != zeros);
+        j += 1;
+    }
+    met
+}
+
+// Passes a run from a place on by blocks of n bytes: fewer than n of it are left.
+fn near_end(s: &[u8], at: usize, n: usize, zeros: bool) -> usize
+    requires { ⌜ (at ≤ length (now s)) × (0 < n) ⌝ }
+    ensures { λ r. ⌜ Near zeros n (now (s .entry)) at r ⌝ }
+{
+    let mut i = at;
+    while n <= s.len() - i {
+        if ends_in(s, i, n, zeros) {
+            return i;
+        }
+        i += n;
+    }
+    i
+}
+
 // How many bytes stand before the first zero.
 pub fn text_length(s: &[u8]) -> usize
     ensures { λ r. ⌜ r ≡ length (textOf (now (s .entry))) ⌝ }
 {
-    let mut i = 0;
-    while i < s.len() {
-        if s[i] == 0 {
-            return i;
-        }
-        i += 1;
-    }
-    i
+    let i = near_end(s, 0, 64, false);
+    let k = near_end(s, i, 8, false);
+    near_end(s, k, 1, false)
 }
 
 // Whether all bytes from a place on are zero.
@@ -36,14 +62,13 @@ fn zero_from(s: &[u8], at: usize) -> bool
     requires { ⌜ at ≤ length (now s) ⌝ }
     ensures { λ r. ⌜ r ≡ allZero (drop at (now (s .entry))) ⌝ }
 {
-    let mut i = at;
-    while i < s.len() {
-        if s[i] != 0 {
-            return false;
-        }
-        i += 1;
+    if s.len() - at < 8 {
+        return near_end(s, at, 1, true) == s.len();
     }
-    true
+    let i = near_end(s, at, 64, true);
+    let k = near_end(s, i, 8, true);
+    // The last 8 bytes hold what is left.
+    s.len() - k < 8 && !ends_in(s, s.len() - 8, 8, true)
 }
 
 // Whether these bytes are all zero.
@@ -130,36 +155,31 @@ fn time_good(t: &[u8]) -> bool
         && two_digits(t, 6, 0, 59)
 }
 
-// The date in these bytes: none where they are all zero, else the first 10 are judged; fewer are bad.
+// The date in these bytes: none where they are all zero, else the first 10 are judged; fewer are bad. Most dates are set,
+// so that is asked first.
 pub fn date(d: &[u8]) -> Part
     ensures { λ r. ⌜ r ≡ partOf (allZero (now (d .entry)) || dateGood (now (d .entry))) (length (setOf (now (d .entry)))) ⌝ }
 {
+    if 10 <= d.len() && date_good(d) {
+        return Part::Length(d.len() as u64);
+    }
     if zero_from(d, 0) {
         return Part::Length(0);
     }
-    if d.len() < 10 {
-        return Part::Bad;
-    }
-    if !date_good(d) {
-        return Part::Bad;
-    }
-    Part::Length(d.len() as u64)
+    Part::Bad
 }
 
 // The time in these bytes: none where they are all zero, else the first 8 are judged; fewer are bad.
 pub fn time(t: &[u8]) -> Part
     ensures { λ r. ⌜ r ≡ partOf (allZero (now (t .entry)) || timeGood (now (t .entry))) (length (setOf (now (t .entry)))) ⌝ }
 {
+    if 8 <= t.len() && time_good(t) {
+        return Part::Length(t.len() as u64);
+    }
     if zero_from(t, 0) {
         return Part::Length(0);
     }
-    if t.len() < 8 {
-        return Part::Bad;
-    }
-    if !time_good(t) {
-        return Part::Bad;
-    }
-    Part::Length(t.len() as u64)
+    Part::Bad
 }
 
 // The rule for the bytes after Version.
