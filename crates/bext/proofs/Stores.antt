@@ -1,15 +1,13 @@
 -- The parts of a payload, one after the other: how long each is, and where the next one starts.
 -- Assumes nothing.
-use mathlib.Core.Path.{_≡_, refl, sym, ap, _∙_}
+use mathlib.Core.Path.{_≡_, refl, ap}
 use mathlib.Core.List.{List, [], _∷_, _++_, append-nil}
-use Prim.Native.Nat.{ℕ, suc, _+_, _-_, _≤_, _<_}
+use Prim.Native.Nat.{ℕ, suc, _+_, _-_, _≤_}
 use native.Mathlib.Omega.{arith}
-use native.Mathlib.Numerals.{add-one}
-use lib.ListN.{length, set, take, getD, replicate, length-append, length-replicate, replicate-append-replicate}
-use lib.Seq.{sets, take-suc, length-take-le}
+use lib.ListN.{length, replicate, length-append, length-replicate}
 use lib.Dec.{eqb·suc-zero}
 use Rattle.le.specs.Number.{bytes}
-use Rattle.le.proofs.Laws.{sets-append, bytes-length}
+use Rattle.le.proofs.Laws.{bytes-length}
 use Rattle.bext_parts.specs.Parts.{restOf, padded}
 use Rattle.bext.specs.Records.{Whole}
 use Rattle.bext.specs.Writing.{laid}

@@ -35,13 +35,19 @@ pub struct Bext {
 impl Bext {
     // Where each part of a payload starts; Description starts it.
     pub const ORIGINATOR: usize = 256;
+
     pub const REFERENCE: usize = 288;
+
     pub const DATE: usize = 320;
+
     pub const TIME: usize = 330;
+
     pub const TIMEREF: usize = 338;
+
     pub const VERSION: usize = 346;
     // The 254 bytes after Version.
     pub const REST: usize = 348;
+
     pub const HISTORY: usize = 602;
 }
 

@@ -7,6 +7,11 @@ use Rattle.le.specs.Choice.{pick}
 use Rattle.chunk.specs.declared.Refusal.the-variants.{BadRecord}
 use Rattle.chunk.specs.Refusals.{Answer, check}
 use Rattle.fmt.specs.declared.Format.{Format}
+use Rattle.fmt.specs.Writing.{formatOut}
+use Rattle.bext.specs.Records.{Whole}
+use Rattle.bext.specs.Writing.{bextOut}
+use Rattle.chna.specs.Records.{chnaFrom}
+use Rattle.words.specs.Answers.{WritesOut}
 use Rattle.records.specs.declared.Given.{Given}
 use Rattle.records.specs.declared.Given.the-variants as words
 
@@ -33,3 +38,17 @@ givenIn w = pick (eqb (length w) 9) (words.Nine (formatOf w)) words.Other
 unfoldable pub ofNine : List ℕ → (Format → Answer (List ℕ)) → Answer (List ℕ)
 unfolding check
 ofNine w k = check (eqb (length w) 9) BadRecord (k (formatOf w))
+
+-- ---- the exports: of what is to be written, an output and a word, the number, the output and the word after it
+
+-- symphedra_write_fmt
+abbrev pub WritesFmt : (words out w : List ℕ) (r : ℕ) (out' w' : List ℕ) → Type 0
+WritesFmt words out w r out' w' = WritesOut (ofNine words formatOut) out w r out' w'
+
+-- symphedra_write_bext
+abbrev pub WritesBext : (b : Whole) (out w : List ℕ) (r : ℕ) (out' w' : List ℕ) → Type 0
+WritesBext b out w r out' w' = WritesOut (bextOut b) out w r out' w'
+
+-- symphedra_write_chna
+abbrev pub WritesChna : (channels tracks uids : ℕ) (entries out w : List ℕ) (r : ℕ) (out' w' : List ℕ) → Type 0
+WritesChna channels tracks uids entries out w r out' w' = WritesOut (chnaFrom channels tracks uids entries) out w r out' w'

@@ -1,16 +1,14 @@
 // The records as C callers have them: read into lent words, written from words and runs.
 use bext::Bext;
+use chna::Chna;
 use chunk::Refusal;
 use chunk::Written;
 use fmt::Format;
 ghost use mathlib.Core.Path.{_≡_};
-ghost use Rattle.fmt.specs.Writing.{formatOut};
 ghost use Rattle.bext.specs.Records.{flagOf};
-ghost use Rattle.bext.specs.Writing.{asked, bextOut};
-ghost use Rattle.chna.specs.Records.{chnaFrom};
-ghost use Rattle.words.specs.Answers.{WritesOut};
-ghost use Rattle.records.specs.Reading.{ReadsFmt, ReadsBext, ReadsChna, PartsOf};
-ghost use Rattle.records.specs.Writing.{givenIn, ofNine};
+ghost use Rattle.bext.specs.Writing.{asked};
+ghost use Rattle.records.specs.Reading.{ReadsFmt, ReadsBext, PartsOf, ReadsChna, EntryOf};
+ghost use Rattle.records.specs.Writing.{givenIn, WritesFmt, WritesBext, WritesChna};
 
 // The nine words of a format record, or zeros.
 pub fn read_fmt(payload: &[u8], words: &mut [u64]) -> u32
@@ -19,7 +17,15 @@ pub fn read_fmt(payload: &[u8], words: &mut [u64]) -> u32
     match fmt::read(payload) {
         fmt::Reading::Record(f) => {
             let values = [
-                f.size, f.tag, f.channels, f.rate, f.byterate, f.block, f.bits, f.valid, f.mask,
+                f.size,
+                f.tag,
+                f.channels,
+                f.rate,
+                f.byterate,
+                f.block,
+                f.bits,
+                f.valid,
+                f.mask,
             ];
             words::answer(0, &values[..], words)
         }
@@ -95,6 +101,20 @@ pub fn read_chna(payload: &[u8], channels: u16, words: &mut [u64]) -> u32
     }
 }
 
+// Entry i of a chna payload, counted from 0: 1, its track index, and the places of its UID, track and pack reference; zeros
+// for one that is not used or isn't there.
+pub fn chna_entry(payload: &[u8], i: usize, words: &mut [u64]) -> u32
+    ensures { λ r. ⌜ EntryOf i (now (payload .entry)) (now (words .entry)) r (now (words .exit)) ⌝ }
+{
+    let entry = chna::entry(payload, i);
+    if !entry.used {
+        return words::zeros(0, 5, words);
+    }
+    let at = (4 + i * Chna::ENTRY) as u64;
+    let values = [1, entry.index, at + 2, at + 14, at + 28];
+    words::answer(0, &values[..], words)
+}
+
 // Words that a writer is given for a format record.
 pub enum Given {
     Nine(Format),
@@ -124,7 +144,7 @@ pub fn format(words: &[u64]) -> Given
 
 // Writes the payload of a format record, which is nine words.
 pub fn write_fmt(record: &[u64], out: &mut [u8], written: &mut [u64]) -> u32
-    ensures { λ r. ⌜ WritesOut (ofNine (now («record» .entry)) formatOut) (now (out .entry)) (now (written .entry)) r (now (out .exit)) (now (written .exit)) ⌝ }
+    ensures { λ r. ⌜ WritesFmt (now («record» .entry)) (now (out .entry)) (now (written .entry)) r (now (out .exit)) (now (written .exit)) ⌝ }
 {
     let Given::Nine(f) = format(record) else {
         return words::tell(Written::Refused(Refusal::BadRecord), written);
@@ -143,7 +163,7 @@ pub fn write_chna(
     out: &mut [u8],
     written: &mut [u64],
 ) -> u32
-    ensures { λ r. ⌜ WritesOut (chnaFrom channels tracks uids (now (entries .entry))) (now (out .entry)) (now (written .entry)) r (now (out .exit)) (now (written .exit)) ⌝ }
+    ensures { λ r. ⌜ WritesChna channels tracks uids (now (entries .entry)) (now (out .entry)) (now (written .entry)) r (now (out .exit)) (now (written .exit)) ⌝ }
 {
     let end = words::room(out.len(), written.len());
     let answer = chna::write(
@@ -170,7 +190,7 @@ pub fn write_bext(
     out: &mut [u8],
     written: &mut [u64],
 ) -> u32
-    ensures { λ r. ⌜ WritesOut (bextOut (asked (now (description .entry)) (now (originator .entry)) (now (reference .entry)) (now (date .entry)) (now (time .entry)) timeref version (now (rest .entry)) (now (history .entry)))) (now (out .entry)) (now (written .entry)) r (now (out .exit)) (now (written .exit)) ⌝ }
+    ensures { λ r. ⌜ WritesBext (asked (now (description .entry)) (now (originator .entry)) (now (reference .entry)) (now (date .entry)) (now (time .entry)) timeref version (now (rest .entry)) (now (history .entry))) (now (out .entry)) (now (written .entry)) r (now (out .exit)) (now (written .exit)) ⌝ }
 {
     let end = words::room(out.len(), written.len());
     let answer = bext::write(

@@ -1,44 +1,18 @@
 // The exported writers. Each gives its number, and in word 0 of written how many bytes it wrote: 0 after a refusal.
 use chunk::Refusal;
 use chunk::Written;
-use fmt::Format;
 use form::Form;
-ghost use mathlib.Core.Path.{_≡_};
-ghost use lib.ListN.{length};
-ghost use Rattle.fmt.specs.Writing.{formatOut};
-ghost use Rattle.bext.specs.Writing.{asked, bextOut};
-ghost use Rattle.chna.specs.Records.{chnaFrom};
-ghost use Rattle.symphedra.specs.Writers.{WritesOut, formatOf, ofNine, riff, rf64, bw64, fileOf};
-
-// The format record in nine words.
-fn format_of(words: &[u64]) -> Format
-    requires { ⌜ length (now words) ≡ 9 ⌝ }
-    ensures { λ r. ⌜ r ≡ formatOf (now (words .entry)) ⌝ }
-{
-    Format {
-        size: words[0],
-        tag: words[1],
-        channels: words[2],
-        rate: words[3],
-        byterate: words[4],
-        block: words[5],
-        bits: words[6],
-        valid: words[7],
-        mask: words[8],
-    }
-}
+use records::Given;
+ghost use Rattle.bext.specs.Writing.{asked};
+ghost use Rattle.records.specs.Writing.{WritesFmt, WritesBext, WritesChna};
+ghost use Rattle.symphedra.specs.Exports.{WritesFile, riffForm, rf64Form, bw64Form};
 
 // Writes the payload of a format record, which is nine words.
 #[no_mangle]
 pub extern "C" fn symphedra_write_fmt(record: &[u64], out: &mut [u8], written: &mut [u64]) -> u32
-    ensures { λ r. ⌜ WritesOut (ofNine (now («record» .entry)) formatOut) (now (out .entry)) (now (written .entry)) r (now (out .exit)) (now (written .exit)) ⌝ }
+    ensures { λ r. ⌜ WritesFmt (now («record» .entry)) (now (out .entry)) (now (written .entry)) r (now (out .exit)) (now (written .exit)) ⌝ }
 {
-    if record.len() != 9 {
-        return words::tell(Written::Refused(Refusal::BadRecord), written);
-    }
-    let end = words::room(out.len(), written.len());
-    let answer = fmt::write(format_of(record), &mut out[..end]);
-    words::tell(answer, written)
+    records::write_fmt(record, out, written)
 }
 
 // Writes the payload of a chna record of these counts and entries, in a file of so many channels.
@@ -51,17 +25,9 @@ pub extern "C" fn symphedra_write_chna(
     out: &mut [u8],
     written: &mut [u64],
 ) -> u32
-    ensures { λ r. ⌜ WritesOut (chnaFrom channels tracks uids (now (entries .entry))) (now (out .entry)) (now (written .entry)) r (now (out .exit)) (now (written .exit)) ⌝ }
+    ensures { λ r. ⌜ WritesChna channels tracks uids (now (entries .entry)) (now (out .entry)) (now (written .entry)) r (now (out .exit)) (now (written .exit)) ⌝ }
 {
-    let end = words::room(out.len(), written.len());
-    let answer = chna::write(
-        tracks as u64,
-        uids as u64,
-        entries,
-        channels as u64,
-        &mut out[..end],
-    );
-    words::tell(answer, written)
+    records::write_chna(tracks, uids, entries, channels, out, written)
 }
 
 // Writes the payload of a bext record. A date or time of no bytes is not set, and a rest of none is 254 zeros.
@@ -79,22 +45,21 @@ pub extern "C" fn symphedra_write_bext(
     out: &mut [u8],
     written: &mut [u64],
 ) -> u32
-    ensures { λ r. ⌜ WritesOut (bextOut (asked (now (description .entry)) (now (originator .entry)) (now (reference .entry)) (now (date .entry)) (now (time .entry)) timeref version (now (rest .entry)) (now (history .entry)))) (now (out .entry)) (now (written .entry)) r (now (out .exit)) (now (written .exit)) ⌝ }
+    ensures { λ r. ⌜ WritesBext (asked (now (description .entry)) (now (originator .entry)) (now (reference .entry)) (now (date .entry)) (now (time .entry)) timeref version (now (rest .entry)) (now (history .entry))) (now (out .entry)) (now (written .entry)) r (now (out .exit)) (now (written .exit)) ⌝ }
 {
-    let end = words::room(out.len(), written.len());
-    let answer = bext::write(
+    records::write_bext(
         description,
         originator,
         reference,
         date,
         time,
         timeref,
-        version as u64,
+        version,
         rest,
         history,
-        &mut out[..end],
-    );
-    words::tell(answer, written)
+        out,
+        written,
+    )
 }
 
 // Writes a file of a form.
@@ -107,13 +72,13 @@ fn write_file(
     out: &mut [u8],
     written: &mut [u64],
 ) -> u32
-    ensures { λ r. ⌜ WritesOut (fileOf form (now (words .entry)) (now (bext .entry)) (now (chna .entry)) (now (audio .entry))) (now (out .entry)) (now (written .entry)) r (now (out .exit)) (now (written .exit)) ⌝ }
+    ensures { λ r. ⌜ WritesFile form (now (words .entry)) (now (bext .entry)) (now (chna .entry)) (now (audio .entry)) (now (out .entry)) (now (written .entry)) r (now (out .exit)) (now (written .exit)) ⌝ }
 {
-    if words.len() != 9 {
+    let Given::Nine(format) = records::format(words) else {
         return words::tell(Written::Refused(Refusal::BadRecord), written);
-    }
+    };
     let end = words::room(out.len(), written.len());
-    let answer = writer::write(form, format_of(words), bext, chna, audio, &mut out[..end]);
+    let answer = writer::write(form, format, bext, chna, audio, &mut out[..end]);
     words::tell(answer, written)
 }
 
@@ -127,7 +92,7 @@ pub extern "C" fn symphedra_write_riff(
     out: &mut [u8],
     written: &mut [u64],
 ) -> u32
-    ensures { λ r. ⌜ WritesOut (fileOf riff (now (fmt .entry)) (now (bext .entry)) (now (chna .entry)) (now (audio .entry))) (now (out .entry)) (now (written .entry)) r (now (out .exit)) (now (written .exit)) ⌝ }
+    ensures { λ r. ⌜ WritesFile riffForm (now (fmt .entry)) (now (bext .entry)) (now (chna .entry)) (now (audio .entry)) (now (out .entry)) (now (written .entry)) r (now (out .exit)) (now (written .exit)) ⌝ }
 {
     write_file(Form::Riff, fmt, bext, chna, audio, out, written)
 }
@@ -142,7 +107,7 @@ pub extern "C" fn symphedra_write_rf64(
     out: &mut [u8],
     written: &mut [u64],
 ) -> u32
-    ensures { λ r. ⌜ WritesOut (fileOf rf64 (now (fmt .entry)) (now (bext .entry)) (now (chna .entry)) (now (audio .entry))) (now (out .entry)) (now (written .entry)) r (now (out .exit)) (now (written .exit)) ⌝ }
+    ensures { λ r. ⌜ WritesFile rf64Form (now (fmt .entry)) (now (bext .entry)) (now (chna .entry)) (now (audio .entry)) (now (out .entry)) (now (written .entry)) r (now (out .exit)) (now (written .exit)) ⌝ }
 {
     write_file(Form::Rf64, fmt, bext, chna, audio, out, written)
 }
@@ -157,7 +122,7 @@ pub extern "C" fn symphedra_write_bw64(
     out: &mut [u8],
     written: &mut [u64],
 ) -> u32
-    ensures { λ r. ⌜ WritesOut (fileOf bw64 (now (fmt .entry)) (now (bext .entry)) (now (chna .entry)) (now (audio .entry))) (now (out .entry)) (now (written .entry)) r (now (out .exit)) (now (written .exit)) ⌝ }
+    ensures { λ r. ⌜ WritesFile bw64Form (now (fmt .entry)) (now (bext .entry)) (now (chna .entry)) (now (audio .entry)) (now (out .entry)) (now (written .entry)) r (now (out .exit)) (now (written .exit)) ⌝ }
 {
     write_file(Form::Bw64, fmt, bext, chna, audio, out, written)
 }

@@ -1,15 +1,15 @@
 -- How the answer of a writer becomes the answer of its export. The writer is lent all of the output where there is a word to
 -- count in; else none of it, and then refuses by itself.
 -- Assumes nothing.
-use mathlib.Core.Path.{_≡_, refl, sym, _∙_, ap, subst}
+use mathlib.Core.Path.{_≡_, refl, sym, _∙_, ap, ap₂, subst}
 use mathlib.Core.List.{List, [], _∷_, _++_, append-nil}
 use mathlib.Core.Bool.{Bool, true, false}
 use Prim.Native.Nat.{ℕ, _≤_}
 use native.Mathlib.Omega.{arith}
-use lib.ListN.{length, take, drop}
-use lib.Seq.{sets, take-length, drop-length}
+use lib.ListN.{length, take, drop, getD}
+use lib.Seq.{sets, take-length, drop-length, take-at}
 use lib.Dec.{eqb, leb}
-use borrow.Author.Tests.{le-leb, lt-leb, ne-eqb}
+use borrow.Author.Tests.{le-leb, lt-leb, leb-true, ne-eqb}
 use Rattle.le.specs.Choice.{pick}
 use Rattle.chunk.specs.declared.Refusal.{Refusal}
 use Rattle.chunk.specs.declared.Refusal.the-variants.{ShortOutput}
@@ -17,7 +17,8 @@ use Rattle.chunk.specs.declared.Written.{Written}
 use Rattle.chunk.specs.declared.Written.the-variants as written
 use Rattle.chunk.specs.Refusals.{Answer, refused, given, check, andThen}
 use Rattle.chunk.specs.Writes.{fitting, writtenOf, writtenNumber, writtenValues, outputOf}
-use Rattle.chunk.proofs.Checks.{pick-false, picked, check-true, check-false}
+use Rattle.chunk.proofs.Checks.{given-inj, pick-false, picked, check-given, check-true, check-false, andThen-given}
+use Rattle.words.proofs.Numbers.{refusal-number}
 use Rattle.words.specs.Answers.{counted, WritesOut}
 use Rattle.words.specs.Contracts.{Tells}
 
@@ -119,3 +120,64 @@ refuses a why out w w' r e t =
       bytes = sym (ap (outputOf out) q);
       words = t .words ∙ sym (ap (λ (y : Answer (List ℕ)). sets w 0 (writtenValues (writtenOf y))) q);
     }
+
+-- ---- what the export says
+
+-- a refusal changes no byte, and its word is 0
+pub refused-out : (a : Answer (List ℕ)) (out w : List ℕ) (r : ℕ) (out' w' : List ℕ) → WritesOut a out w r out' w' → (r ≡ 0 → ⊥)
+    → (out' ≡ out) × (w' ≡ sets w 0 (0 ∷ []))
+unfolding writtenOf outputOf writtenNumber writtenValues
+refused-out a out w r out' w' t h = cases (counted out w a) (t .number) (t .bytes) (t .words)
+  where
+    cases : (x : Answer (List ℕ)) → r ≡ writtenNumber (writtenOf x) → out' ≡ outputOf out x → w' ≡ sets w 0 (writtenValues (writtenOf x))
+        → (out' ≡ out) × (w' ≡ sets w 0 (0 ∷ []))
+    cases (refused why) n b v = (b, v)
+    cases (given bs) n b v = absurd (h n)
+
+-- what was written: as many bytes as the word says, at the start of the output
+pub record WroteOut (a : Answer (List ℕ)) (out out' w' : List ℕ) : Type 0 where
+  pub is-given : a ≡ given (take (getD w' 0 0) out')
+  pub fits : getD w' 0 0 ≤ length out
+  pub output : out' ≡ take (getD w' 0 0) out' ++ drop (getD w' 0 0) out
+
+-- bytes that fit, and a word to count them in
+record Counted (a : Answer (List ℕ)) (out w bs : List ℕ) : Type 0 where
+  is : a ≡ given bs
+  room : length bs ≤ length out
+  word : 1 ≤ length w
+
+counted-given : (a : Answer (List ℕ)) (out w bs : List ℕ) → counted out w a ≡ given bs → Counted a out w bs
+unfolding counted fitting
+counted-given a out w bs e =
+    let f = andThen-given _ _ bs e in
+    let g = check-given _ _ _ bs (f .2) in
+    let h = andThen-given a _ (f .0) (f .1) in
+    let k = check-given _ _ _ (f .0) (h .2) in
+    let same : h .0 ≡ bs = given-inj _ _ (k .1) ∙ given-inj _ _ (g .1) in
+    record {
+      is = h .1 ∙ ap given same;
+      room = subst (λ (l : List ℕ). length l ≤ length out) same (leb-true _ _ (k .0));
+      word = leb-true 1 (length w) (g .0);
+    }
+
+first-word : (w : List ℕ) (n : ℕ) → 1 ≤ length w → getD (sets w 0 (n ∷ [])) 0 0 ≡ n
+first-word [] n h = absurd (omega (arith, h))
+first-word (v ∷ w) n h = refl
+
+pub wrote-out : (a : Answer (List ℕ)) (out w : List ℕ) (out' w' : List ℕ) → WritesOut a out w 0 out' w' → WroteOut a out out' w'
+unfolding writtenOf outputOf writtenNumber writtenValues
+wrote-out a out w out' w' t = cases (counted out w a) refl (t .number) (t .bytes) (t .words)
+  where
+    cases : (x : Answer (List ℕ)) → counted out w a ≡ x → 0 ≡ writtenNumber (writtenOf x) → out' ≡ outputOf out x → w' ≡ sets w 0 (writtenValues (writtenOf x))
+        → WroteOut a out out' w'
+    cases (refused why) e n b v = absurd (omega (arith, n, refusal-number why))
+    cases (given bs) e n b v =
+        let c = counted-given a out w bs e in
+        let k : getD w' 0 0 ≡ length bs = ap (λ (l : List ℕ). getD l 0 0) v ∙ first-word w (length bs) (c .word) in
+        let front : take (getD w' 0 0) out' ≡ bs =
+        ap (take (getD w' 0 0)) b ∙ take-at bs (drop (length bs) out) (getD w' 0 0) (sym k) in
+        record {
+          is-given = c .is ∙ ap given (sym front);
+          fits = omega (arith, k, c .room);
+          output = b ∙ ap₂ (λ (l : List ℕ) (m : ℕ). l ++ drop m out) (sym front) (sym k);
+        }

@@ -1,7 +1,5 @@
 -- `records::format` meets its contract: another number of words, or the nine.
 -- Assumes nothing.
-use mathlib.Core.Path.{sym}
-use lib.Dec.{eqb}
 use lib.ListN.{length}
 use borrow.Author.Tests.{eq-eqb, ne-eqb}
 use Rattle.le.specs.Choice.{pick}

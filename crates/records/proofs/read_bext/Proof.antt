@@ -42,7 +42,7 @@ same-length c = search needs
 
 returns : tie.Need-returns
 unfolding bextNumber
-returns c = 
+returns c =
     let w = c .before .before .before .before .before .before .before .before .before .before .before .before .before .args .words .now in
     let e = sym (c .before .before .before .before .before .before .before .before .before .before .read .ensures) ∙ c .before .before .before .before .before .before .before .before .b .given .1 in
     same 8 _ _ _ _ _ _ _ (sym (ap bextNumber e))
@@ -54,7 +54,7 @@ same-length-2 c = search needs
 
 returns-2 : tie.Need-returns-2
 unfolding bextNumber bextValues
-returns-2 c = 
+returns-2 c =
     let e = sym (c .before .before .before .before .before .before .before .before .read .ensures) ∙ c .before .before .before .before .before .before .r .given .1 in
     same 8 _ _ _ _ _ _ _ (c .before .before .before .before .number .ensures ∙ sym (ap bextNumber e)) (sym (ap (λ (x : Reading). sets (c .before .before .before .before .before .before .before .before .before .before .before .args .words .now) 0 (bextValues x)) e)) (c .before .before .zeros .ensures)
 

@@ -35,7 +35,7 @@ same-length c = search needs
 
 returns : tie.Need-returns
 unfolding fmtNumber fmtValues
-returns c = 
+returns c =
     let e = sym (c .before .before .before .before .before .before .before .before .read .ensures) ∙ c .before .before .before .before .before .before .f .given .1 in
     same 9 _ _ _ _ _ _ _ (sym (ap fmtNumber e)) (sym (ap (λ (x : Reading). sets (c .before .before .before .before .before .before .before .before .before .before .before .args .words .now) 0 (fmtValues x)) e)) (c .before .before .answer .ensures)
 
@@ -44,7 +44,7 @@ same-length-2 c = search needs
 
 returns-2 : tie.Need-returns-2
 unfolding fmtNumber fmtValues
-returns-2 c = 
+returns-2 c =
     let e = sym (c .before .before .before .before .before .before .before .before .read .ensures) ∙ c .before .before .before .before .before .before .r .given .1 in
     same 9 _ _ _ _ _ _ _ (c .before .before .before .before .number .ensures ∙ sym (ap fmtNumber e)) (sym (ap (λ (x : Reading). sets (c .before .before .before .before .before .before .before .before .before .before .before .args .words .now) 0 (fmtValues x)) e)) (c .before .before .zeros .ensures)
 

@@ -12,12 +12,12 @@ room-requires : tie.Need-room-requires
 room-requires c κs = search needs
 
 slice-relend-prefix-write : tie.Need-slice-relend-prefix-write
-slice-relend-prefix-write c = 
+slice-relend-prefix-write c =
     let s = c .before .before .before .before .before .before .before .before .before .before in
     part (s .args .out .now) (s .args .written .now) _ (c .room .ensures)
 
 slice-aggregate-write : tie.Need-slice-aggregate-write
-slice-aggregate-write c = 
+slice-aggregate-write c =
     let s = c .before .before .before .before .before .before .before .before .before .before .before in
     sym (length-take-le _ _ (part (s .args .out .now) (s .args .written .now) _ (c .before .room .ensures)))
 
@@ -34,7 +34,7 @@ same-length-2 : tie.Need-same-length-2
 same-length-2 c = search needs
 
 returns : tie.Need-returns
-returns c = 
+returns c =
     let s = c .before .before .before .before .before .before .before .before .before .before .before .before .before .before .before .before .before .before in
     wrote _ (s .args .out .now) (s .args .written .now) _ _ _ _ _ (bext-filled _) (c .before .before .before .before .before .before .before .before .room .ensures)
     (c .before .before .before .before .before .before .write .ensures .answers) (c .before .before .before .before .before .before .write .ensures .leaves) (c .before .before .tell .ensures)

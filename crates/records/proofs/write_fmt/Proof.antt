@@ -1,12 +1,8 @@
 -- `records::write_fmt` meets its contract: another number of words, or what the writer answers.
 -- Assumes nothing.
-use mathlib.Core.Path.{sym, _∙_, subst}
-use mathlib.Core.List.{List}
-use Prim.Native.Nat.{ℕ}
+use mathlib.Core.Path.{sym, _∙_}
 use lib.Seq.{length-take-le}
-use Rattle.chunk.specs.Refusals.{Answer}
 use Rattle.fmt.specs.Writing.{formatOut}
-use Rattle.words.specs.Answers.{WritesOut}
 use Rattle.words.proofs.Written.{part, wrote, refuses}
 use Rattle.records.proofs.Payloads.{other, nine, fmt-filled}
 use borrow.Author.Needs.{needs}
@@ -35,12 +31,12 @@ room-requires : tie.Need-room-requires
 room-requires c κs = search needs
 
 slice-relend-prefix-write : tie.Need-slice-relend-prefix-write
-slice-relend-prefix-write c = 
+slice-relend-prefix-write c =
     let s = c .before .before .before .before .before .before .before .before in
     part (s .args .out .now) (s .args .written .now) _ (c .room .ensures)
 
 slice-aggregate-write : tie.Need-slice-aggregate-write
-slice-aggregate-write c = 
+slice-aggregate-write c =
     let s = c .before .before .before .before .before .before .before .before .before in
     sym (length-take-le _ _ (part (s .args .out .now) (s .args .written .now) _ (c .before .room .ensures)))
 
@@ -57,7 +53,7 @@ same-length-3 : tie.Need-same-length-3
 same-length-3 c = search needs
 
 returns-2 : tie.Need-returns-2
-returns-2 c = 
+returns-2 c =
     let s = c .before .before .before .before .before .before .before .before .before .before .before .before .before .before .before .before in
     nine _ formatOut _ _ _ _ _ _ (sym (c .before .before .before .before .before .before .before .before .before .before .f .given .1) ∙ c .before .before .before .before .before .before .before .before .before .before .before .before .format .ensures)
     (wrote _ (s .args .out .now) (s .args .written .now) _ _ _ _ _ (fmt-filled _) (c .before .before .before .before .before .before .before .before .room .ensures)
