@@ -197,7 +197,7 @@ pub fn rest_good(version: u64, rest: &[u8]) -> bool
 pub fn text_given(t: &[u8], n: usize) -> bool
     ensures { λ r. ⌜ r ≡ textGiven n (now (t .entry)) ⌝ }
 {
-    t.len() <= n && text_length(t) == t.len()
+    t.len() <= n && !ends_in(t, 0, t.len(), false)
 }
 
 // Whether a date to write is good, or not set.
