@@ -1,14 +1,14 @@
 -- A written file read back: its rows are laid in it, each payload is found where the table says, and the scan accepts it.
 -- Assumes nothing.
 use mathlib.Core.Path.{_≡_, refl, sym, ap, ap₂, _∙_}
-use mathlib.Core.Bool.{true, _||_}
+use mathlib.Core.Bool.{true}
 use mathlib.Core.List.{List, [], _++_, append-nil}
 use Prim.Native.Nat.{ℕ, _+_, _/_, _%_, _^_, _≤_, _<_}
 use native.Mathlib.Nat.{div-le-self}
 use native.Mathlib.Omega.{arith}
 use lib.ListN.{length, drop}
-use lib.Dec.{eqb, leb, lit<}
-use borrow.Author.Tests.{eq-eqb, leb-true}
+use lib.Dec.{eqb, lit<}
+use borrow.Author.Tests.{eq-eqb}
 use Rattle.le.specs.Number.{field}
 use Rattle.chunk.specs.declared.Entry.{Entry}
 use Rattle.chunk.specs.declared.Refusal.the-variants.{RaggedAudio}
@@ -18,7 +18,7 @@ use Rattle.chunk.specs.Names.{FMT, DATA, BEXT, CHNA, DS64}
 use Rattle.chunk.specs.Fields.{ONES}
 use Rattle.chunk.specs.Tables.{LIMIT, find}
 use Rattle.chunk.specs.Walks.{Rule, ownSize}
-use Rattle.chunk.proofs.Checks.{given-inj, check-given, check-true, andThen-at, and-true, or-false}
+use Rattle.chunk.proofs.Checks.{check-true, andThen-at}
 use Rattle.chunk.proofs.Laid.{Laid, done, laid-walk, own-given}
 use Rattle.form.specs.declared.Form.{Form}
 use Rattle.form.specs.declared.Form.the-variants.{Riff}
@@ -38,37 +38,17 @@ use Rattle.wave.specs.Scans.{payload, wholeBlocks, judged, Scan, scan, walkFrom
 use Rattle.samples.specs.Counts.{samplesOf}
 use Rattle.wave.proofs.Scanned.{scanned-scan}
 use Rattle.samples.proofs.Counts.{samples-none, samples-given}
-use Rattle.writer.specs.Files.{chunkWith, chunkBytes, optional, ownField, bodyBytes, formSizeFor, fileBytes, inputGood, sizesGood, fileOut, chunkSize, optionalSize}
-use Rattle.writer.specs.Contracts.{fileSize}
+use Rattle.file_parts.specs.Parts.{chunkWith, chunkBytes, optional, ownField, chunkSize, optionalSize}
+use Rattle.file.specs.Files.{bodyBytes, formSizeFor, fileBytes}
+use Rattle.file.specs.Contracts.{fileSize}
 use Rattle.writer.specs.WayBack.{entry, firstName, tableFor}
-use Rattle.writer.proofs.Inputs.{Good, good, chna-short}
-use Rattle.writer.proofs.Sizes.{format-length, form-size, file-length, zeroed-length}
+use Rattle.file.proofs.Inputs.{chna-short}
+use Rattle.file.proofs.Outs.{Fine}
+use Rattle.chna.proofs.Pads.{zeroed-length}
+use Rattle.file.proofs.Sizes.{format-length, form-size, file-length}
 use Rattle.writer.proofs.Places.{Stands, stands, laid-next, laid-optional, optional-next, optional-stands}
 use Rattle.writer.proofs.Openings.{thirdOf, first-length, own-bound, Opening, opening, Numbers, numbers, headFor, opened, sized-first, sized-data}
 use Rattle.writer.proofs.Tables as tables
-
--- ---- an input that is not refused
-
-pub record Fine (form : Form) (f : Format) (b c a : List ℕ) : Type 0 where
-  pub is-good : inputGood f b c a ≡ true
-  pub input : Good f b c a
-  pub bext-fits : length b ≤ 4294967294
-  pub form-fits : form ≡ Riff → formSizeFor form f b c a ≤ 4294967294
-
-sizes-told : (form : Form) (size n : ℕ) → sizesGood form size n ≡ true → (n ≤ 4294967294) × (form ≡ Riff → size ≤ 4294967294)
-unfolding sizesGood isWide
-sizes-told form size n e =
-    let k = and-true (leb n 4294967294) (isWide form || leb size 4294967294) e in
-    (leb-true n 4294967294 (k .0), λ r. leb-true size 4294967294 (or-false (isWide form) _ (k .1) (ap isWide r)))
-
-pub out-fine : (form : Form) (f : Format) (b c a bs : List ℕ) → fileOut form f b c a ≡ given bs
-    → Fine form f b c a × (fileBytes form f b c a ≡ bs)
-unfolding fileOut
-out-fine form f b c a bs e =
-    let c1 = check-given (inputGood f b c a) _ _ bs e in
-    let c2 = check-given (sizesGood form (formSizeFor form f b c a) (length b)) _ _ bs (c1 .1) in
-    let k = sizes-told form (formSizeFor form f b c a) (length b) (c2 .0) in
-    (record { is-good = c1 .0; input = good f b c a (c1 .0); bext-fits = k .0; form-fits = k .1 }, given-inj _ _ (c2 .1))
 
 -- ---- what a rule of sizes has to know of a written file
 
@@ -91,14 +71,14 @@ module _ (form : Form) (f : Format) (b c a : List ℕ) (w : Fine form f b c a) (
   table = tableFor form (length b) (length c) (length a)
 
   sixteen : length (formatBytes f) ≡ 16
-  sixteen = format-length form f b c a (w .input .fmt) (w .input .sixteen)
+  sixteen = format-length f (w .input .sixteen)
 
   pub file-long : length s ≡ fileSize (length b) (length c) (length a)
-  file-long = file-length form f b c a (w .input .fmt) (w .input .sixteen)
+  file-long = file-length f (w .input .sixteen) form b c a
 
   pub size-whole : 8 + formSizeFor form f b c a ≡ length s
   unfolding fileSize
-  size-whole = omega (arith, form-size form f b c a (w .input .fmt) (w .input .sixteen), file-long)
+  size-whole = omega (arith, form-size f (w .input .sixteen) form b c a, file-long)
 
   audio-inside : 8 + length a ≤ formSizeFor form f b c a
   unfolding fileSize chunkSize
@@ -136,7 +116,7 @@ module _ (form : Form) (f : Format) (b c a : List ℕ) (w : Fine form f b c a) (
   data-stands = stands s data-at DATA (ownField form (length a)) a [] (lit< tt) (own-bound form (length a) audio-fits) data-next
 
   chna-bound : length (padsZeroed c) < 256 ^ 4
-  chna-bound = omega (arith, zeroed-length c, chna-short f b c a (w .input) .most)
+  chna-bound = omega (arith, zeroed-length c, chna-short f b c a (w .input))
 
   bext-stands : (length b ≡ 0 → ⊥) → Stands s 72 BEXT (length b) b (optional CHNA (padsZeroed c) ++ chunkWith DATA (ownField form (length a)) a)
   bext-stands h = optional-stands s 72 BEXT b _ (lit< tt) (omega (arith, w .bext-fits)) h bext-next
@@ -155,7 +135,7 @@ module _ (form : Form) (f : Format) (b c a : List ℕ) (w : Fine form f b c a) (
   pub laid : (rule : Rule) → Knows form (length a) rule → Laid rule s 12 table
   unfolding tableFor chunkSize
   laid rule k =
-      let small-c : length c ≤ 41003 = chna-short f b c a (w .input) .most in
+      let small-c : length c ≤ 41003 = chna-short f b c a (w .input) in
       laid-next rule s 12 (firstName form) LEAST _ _ _ 20 LEAST (opening-is .first) refl
       (first-length form (formSizeFor form f b c a) (length a) (length a / f .block)) (k .first)
       (laid-next rule s 48 FMT (length (formatBytes f)) _ _ _ 56 16 fmt-stands refl sixteen

@@ -11,7 +11,8 @@ use Rattle.fmt.specs.Formats.{sizeGood, bitsGood, samplesGood, validGood, recor
 use Rattle.fmt.specs.Writing.{extraBytes, headBytes, formatBytes, fieldsFit, writable}
 use Rattle.chna.specs.Records.{padsAt, padsOff, padsZeroed}
 use Rattle.upgrade.specs.Cases.{file}
-use Rattle.writer.specs.Files.{padOf, chunkWith, chunkBytes, optional, firstChunk, ownField, openingBytes, bodyBytes, formSizeFor, fileBytes, inputGood, sizesGood, fileOut}
+use Rattle.file_parts.specs.Parts.{padOf, chunkWith, chunkBytes, optional, firstChunk, ownField, openingBytes}
+use Rattle.file.specs.Files.{bodyBytes, formSizeFor, fileBytes, inputGood, sizesGood, fileOut}
 use Rattle.writer.specs.Cases.{stereo, frame}
 
 pub whole-file : fileOut Riff stereo [] [] frame ≡ given file

@@ -22,9 +22,9 @@ use Rattle.form.proofs.Heads.{Opened, rules-ds64, head-wide, form-own, form-one
 use Rattle.form.proofs.Opens.{riff-finished}
 use Rattle.truesize.specs.Sizes.{Ds64Entry, trueSize}
 use Rattle.truesize.proofs.Sizes.{true-own, true-ds64, true-data}
-use Rattle.writer.specs.Files.{chunkWith, chunkBytes, firstChunk, ownField, openingBytes, chunkSize}
+use Rattle.file_parts.specs.Parts.{chunkWith, chunkBytes, firstChunk, ownField, openingBytes, chunkSize}
 use Rattle.writer.specs.WayBack.{firstName}
-use Rattle.writer.proofs.Sizes.{opening-length}
+use Rattle.file_parts.proofs.Lengths.{opening-length}
 use Rattle.writer.proofs.Places.{Stands, stands}
 
 -- ---- the fields

@@ -17,9 +17,9 @@ use Rattle.chunk.specs.Refusals.{given}
 use Rattle.chunk.specs.Walks.{Rule, past}
 use Rattle.chunk.proofs.Checks.{pick-true, pick-false}
 use Rattle.chunk.proofs.Laid.{Row, Laid, next}
-use Rattle.writer.specs.Files.{padOf, chunkWith, chunkBytes, optional, chunkSize, optionalSize}
+use Rattle.file_parts.specs.Parts.{padOf, chunkWith, chunkBytes, optional, chunkSize, optionalSize}
 use Rattle.writer.specs.WayBack.{entry, rowFor}
-use Rattle.writer.proofs.Sizes.{chunk-length, optional-some, optional-length, size-none, size-some}
+use Rattle.file_parts.proofs.Lengths.{chunk-length, optional-some, optional-length, size-none, size-some}
 
 -- ---- a chunk
 

@@ -17,7 +17,7 @@ use Rattle.form.specs.Forms.{LEAST}
 use Rattle.form.specs.declared.Form.{Form}
 use Rattle.form.specs.declared.Form.the-variants.{Riff, Rf64, Bw64}
 use Rattle.listing.proofs.Checked.{Chunked}
-use Rattle.writer.specs.Files.{optionalSize}
+use Rattle.file_parts.specs.Parts.{optionalSize}
 use Rattle.writer.specs.WayBack.{entry, firstName, rowFor, tableFor}
 
 -- a table without bext where x, and without chna where y

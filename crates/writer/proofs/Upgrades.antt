@@ -32,12 +32,15 @@ use Rattle.upgrade.specs.Upgrades.{Patch, patch, halves, hasFact, frames, third
 use Rattle.upgrade.specs.Demand3.{targetForm}
 use Rattle.upgrade.proofs.Thirds.{third-frames, third-zero}
 use Rattle.upgrade.proofs.Outcomes.{upgrade-given}
-use Rattle.writer.specs.Files.{padOf, chunkWith, chunkBytes, optional, firstChunk, ownField, openingBytes, bodyBytes, formSizeFor, fileBytes, inputGood, sizesGood, fileOut, optionalSize}
+use Rattle.file_parts.specs.Parts.{padOf, chunkWith, chunkBytes, optional, firstChunk, ownField, openingBytes, optionalSize}
+use Rattle.file.specs.Files.{bodyBytes, formSizeFor, fileBytes, inputGood, sizesGood, fileOut}
 use Rattle.writer.specs.WayBack.{entry, firstName, tableFor}
-use Rattle.writer.proofs.Sizes.{opening-length, fmt-length, optional-length, zeroed-length, form-size}
+use Rattle.chna.proofs.Pads.{zeroed-length}
+use Rattle.file_parts.proofs.Lengths.{opening-length, optional-length}
+use Rattle.file.proofs.Sizes.{fmt-length, form-size}
 use Rattle.writer.proofs.Openings.{thirdOf}
 use Rattle.writer.proofs.Back as back
-use Rattle.writer.proofs.Back.{Fine}
+use Rattle.file.proofs.Outs.{Fine}
 
 -- ---- a store in the first of two runs, or in the second
 
@@ -215,12 +218,12 @@ module _ (f : Format) (b c a : List ℕ) (w : Fine Riff f b c a) (small : length
   between-long : at ≡ 48 + length between + 4
   between-long =
       omega
-      (arith, length-append (chunkBytes FMT (formatBytes f)) (optional BEXT b ++ optional CHNA (padsZeroed c)), length-append (optional BEXT b) (optional CHNA (padsZeroed c)), fmt-length Riff f b c a (w .input .fmt) (w .input .sixteen), optional-length BEXT b, optional-length CHNA (padsZeroed c), ap optionalSize (zeroed-length c))
+      (arith, length-append (chunkBytes FMT (formatBytes f)) (optional BEXT b ++ optional CHNA (padsZeroed c)), length-append (optional BEXT b) (optional CHNA (padsZeroed c)), fmt-length f (w .input .sixteen), optional-length BEXT b, optional-length CHNA (padsZeroed c), ap optionalSize (zeroed-length c))
 
   same-size : formSizeFor Riff f b c a ≡ formSizeFor (targetForm t) f b c a
   same-size =
-      form-size Riff f b c a (w .input .fmt) (w .input .sixteen)
-      ∙ sym (form-size (targetForm t) f b c a (w .input .fmt) (w .input .sixteen))
+      form-size f (w .input .sixteen) Riff b c a
+      ∙ sym (form-size f (w .input .sixteen) (targetForm t) b c a)
 
   bytes-are : patched (patches t scan-of file) file ≡ fileBytes (targetForm t) f b c a
   bytes-are =

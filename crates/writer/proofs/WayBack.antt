@@ -23,14 +23,15 @@ use Rattle.chna.proofs.RoundTrip.{pads-zeroed-reads}
 use Rattle.upgrade.specs.declared.Target.{Target}
 use Rattle.upgrade.specs.Upgrades.{upgraded}
 use Rattle.upgrade.specs.Demand3.{targetForm}
-use Rattle.writer.specs.Files.{fileBytes, fileOut, chunkSize}
-use Rattle.writer.specs.Contracts.{fileSize}
+use Rattle.file_parts.specs.Parts.{chunkSize}
+use Rattle.file.specs.Files.{fileBytes, fileOut}
+use Rattle.file.specs.Contracts.{fileSize}
 use Rattle.writer.specs.WayBack.{WayBack}
-use Rattle.writer.proofs.Inputs.{accepted-given}
+use Rattle.file.proofs.Inputs.{accepted-given}
 use Rattle.writer.proofs.Tables.{bext-absent, chna-absent}
 use Rattle.writer.proofs.Openings.{thirdOf, headFor}
 use Rattle.writer.proofs.Back as back
-use Rattle.writer.proofs.Back.{Fine, out-fine}
+use Rattle.file.proofs.Outs.{Fine, out-fine}
 use Rattle.writer.proofs.Upgrades.{upgrade-is}
 
 -- a head keeps its form

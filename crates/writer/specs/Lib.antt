@@ -1,4 +1,3 @@
-pub mod Files
 pub mod WayBack
 pub mod Cases
 pub mod Contracts

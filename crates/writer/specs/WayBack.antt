@@ -25,7 +25,8 @@ use Rattle.samples.specs.Counts.{samplesOf}
 use Rattle.upgrade.specs.declared.Target.{Target}
 use Rattle.upgrade.specs.Upgrades.{upgraded}
 use Rattle.upgrade.specs.Demand3.{targetForm}
-use Rattle.writer.specs.Files.{fileOut, optionalSize}
+use Rattle.file_parts.specs.Parts.{optionalSize}
+use Rattle.file.specs.Files.{fileOut}
 
 -- ---- the table of a written file
 

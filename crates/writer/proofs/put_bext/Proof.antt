@@ -1,16 +1,16 @@
 -- `writer::put_bext` meets its contract: nothing, or a chunk.
 -- Assumes nothing.
 use native.Mathlib.Omega.{arith}
-use Rattle.chunk.specs.Names.{BEXT}
-use Rattle.writer.specs.Files.{chunkBytes}
-use Rattle.writer.proofs.Sizes.{optional-none, optional-some, size-some}
-use Rattle.writer.proofs.Stores.{nothing-puts, puts-as}
 use borrow.Author.Needs.{needs}
+use Rattle.chunk.specs.Names.{BEXT}
+use Rattle.file_parts.specs.Parts.{chunkBytes}
+use Rattle.file_parts.proofs.Lengths.{optional-none, optional-some, size-some}
+use Rattle.file_parts.proofs.Stores.{puts-nothing, puts-as}
 use Rattle.writer.proofs.put_bext.Statement.{statement}
 use Rattle.writer.proofs.put_bext.Tie as tie
 
 returns : tie.Need-returns
-returns c = nothing-puts _ _ _ (optional-none BEXT _ (c .if1 .taken))
+returns c = puts-nothing _ _ _ (optional-none BEXT _ (c .if1 .taken))
 
 put-chunk-requires : tie.Need-put-chunk-requires
 put-chunk-requires c κs = omega (arith, size-some _ (c .before .if1 .left))

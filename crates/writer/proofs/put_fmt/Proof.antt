@@ -1,50 +1,60 @@
--- `writer::put_fmt` meets its contract: the header, and the record behind it.
+-- `writer::put_fmt` meets its contract: the header, and 16 bytes behind it, which need no pad.
 -- Assumes nothing.
-use mathlib.Core.Path.{_≡_, _∙_}
+use mathlib.Core.Path.{_≡_, sym, ap}
+use Prim.Native.Nat.{ℕ, _+_}
 use native.Mathlib.Omega.{arith}
-use lib.ListN.{length, length-take, length-drop}
+use lib.ListN.{length}
+use borrow.Author.Needs.{needs}
 use Rattle.chunk.specs.Names.{FMT}
 use Rattle.fmt.specs.Writing.{formatBytes}
-use Rattle.fmt.proofs.Payloads.{payload-length, writable-true}
-use Rattle.writer.proofs.Stores.{format-put, sixteen-put}
-use borrow.Author.Needs.{needs}
+use Rattle.file_parts.specs.Parts.{chunkWith, chunkBytes}
+use Rattle.file_parts.proofs.Stores.{puts-as, part-stored, header-next, pad-even, chunk-puts}
+use Rattle.file.proofs.Sizes.{format-length}
 use Rattle.writer.proofs.put_fmt.Statement.{statement}
 use Rattle.writer.proofs.put_fmt.Tie as tie
 
 put-header-requires : tie.Need-put-header-requires
 put-header-requires c κs = search needs
 
-sub-write : tie.Need-sub-write
-sub-write c = search needs
+add-end : tie.Need-add-end
+add-end c = omega (arith, header-next _ _ (c .before .before .put-header .ensures))
 
-part-write-start : tie.Need-part-write-start
-part-write-start c = search needs
+sub-store : tie.Need-sub-store
+sub-store c = search needs
 
-part-write-end : tie.Need-part-write-end
-part-write-end c = search needs
+part-store-start : tie.Need-part-store-start
+part-store-start c = search needs
 
-write-requires : tie.Need-write-requires
-write-requires c κs = search needs
+part-store-end : tie.Need-part-store-end
+part-store-end c = omega (arith, header-next _ _ (c .before .before .put-header .ensures))
+
+store-requires : tie.Need-store-requires
+store-requires c κs = search needs
 
 same-length : tie.Need-same-length
 same-length c = search needs
 
 returns : tie.Need-returns
+unfolding chunkBytes
 returns c =
     let s = c .before .before .before .before .before .before .before .before .before in
-    let f = s .args .format in
-    let long : length (formatBytes f) ≡ 16 = payload-length f (writable-true f (s .pre .0) .good) ∙ s .pre .1 .0 in
-    sixteen-put FMT (s .args .out .now) _ _ (formatBytes f) long (s .pre .1 .1) (c .before .before .before .before .before .before .put-header .ensures)
-    (c .before .before .write .ensures .leaves ∙ format-put f _ (s .pre .0) long (simp (length-take, length-drop) (omega arith)))
+    let p = formatBytes (s .args .format) in
+    let long : length p ≡ 16 = format-length (s .args .format) (s .pre .0) in
+    let header = c .before .before .before .before .before .before .put-header in
+    puts-as (chunkBytes FMT p) (chunkWith FMT 16 p) (ap (λ (n : ℕ). chunkWith FMT n p) long)
+    (chunk-puts FMT 16 (header .ensures)
+    (part-stored _ _ p (header .result) (header .result + 16) (ap (λ (n : ℕ). header .result + n) (sym long)) (part-store-end (c .before .before .before .before)) (c .before .before .store .ensures))
+    (pad-even _ _ (length p) (omega arith)))
 
 pub put-fmt-spec : {M : Type 1} → statement M
 put-fmt-spec =
     tie.close
     (tie.spec
     put-header-requires
-    sub-write
-    part-write-start
-    part-write-end
-    write-requires
+    add-end
+    sub-store
+    part-store-start
+    part-store-end
+    store-requires
     same-length
     returns)
