@@ -24,7 +24,7 @@ entry-length : (s : List ℕ) → 40 ≤ length s → length (set (take 40 s) 39
 entry-length s h = length-set (take 40 s) 39 0 ∙ length-take-le 40 s h
 
 -- the next pad, where it stands
-pub next-pad : (i : ℕ) (s : List ℕ) → i * 40 + 40 ≤ length s → set (padsAt i s) (i * 40 + 39) 0 ≡ padsAt (suc i) s
+next-pad : (i : ℕ) (s : List ℕ) → i * 40 + 40 ≤ length s → set (padsAt i s) (i * 40 + 39) 0 ≡ padsAt (suc i) s
 unfolding padsAt
 next-pad zero s h =
     ap (λ (l : List ℕ). set l 39 0) (sym (take-append-drop 40 s))

@@ -27,7 +27,7 @@ pub whole-unused : (e : List ℕ) → length e ≡ 40 → fits UNUSED e ≡ true
 unfolding entryIn pick
 whole-unused e h u = whole e h ∙ ap (λ (b : Bool). pick b unused (used (usedIn e))) u
 
-pub whole-used : (e : List ℕ) → length e ≡ 40 → fits UNUSED e ≡ false → wholeEntry e ≡ used (usedIn e)
+whole-used : (e : List ℕ) → length e ≡ 40 → fits UNUSED e ≡ false → wholeEntry e ≡ used (usedIn e)
 unfolding entryIn pick
 whole-used e h u = whole e h ∙ ap (λ (b : Bool). pick b unused (used (usedIn e))) u
 

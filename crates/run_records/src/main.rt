@@ -3,10 +3,12 @@
 // The input is a script (the crate script says how a payload is put together). nf and nb read fmt and bext from the first n
 // bytes, and nc chna, with the place as the channel count; each then writes what it read. w writes the fmt record whose
 // fields stand as numbers of 8 bytes, and reads it back; nd writes a bext with a description of n bytes, and the date and
-// time that stand in their places. nz reads chna from n zeros.
+// time that stand in their places. nz reads chna from n zeros. ne takes out of a chna of n bytes the entry whose number is
+// the place, and np copies such a chna.
 //
 // Each prints 0 and the record's fields, or the refusal; then how many bytes are written and whether they are those that
-// were read, and the answer to an output that is too short. What is expected stands in the file stdout, worked out from
+// were read, and the answer to an output that is too short. An entry prints its index and identifiers, a copy whether it is
+// the same bytes, and whether an output that is too short still is. What is expected stands in the file stdout, worked out from
 // document 01.
 ghost use Prim.Native.Nat.{_≤_};
 ghost use lib.ListN.{length};
@@ -47,6 +49,15 @@ fn answer(w: Written) -> usize {
     }
 }
 
+// Whether some bytes are those that they were.
+fn compared(now: &[u8], before: &[u8]) {
+    if check::same(now, before) {
+        text(b" same");
+    } else {
+        text(b" changed");
+    }
+}
+
 // What a writer answers, and whether it wrote the bytes that were read.
 fn written(w: Written, out: &[u8], payload: &[u8]) {
     text(b"; written");
@@ -54,11 +65,7 @@ fn written(w: Written, out: &[u8], payload: &[u8]) {
     if n == 0 {
         return;
     }
-    if check::same(first(out, n), payload) {
-        text(b" same");
-    } else {
-        text(b" changed");
-    }
+    compared(first(out, n), payload);
 }
 
 // What a writer answers to an output that is too short.
@@ -277,6 +284,41 @@ fn zeros(n: usize) {
     chna_fields(first(&none, n), 2);
 }
 
+// An identifier after a space.
+fn id(s: &[u8]) {
+    text(b" ");
+    text(s);
+}
+
+// An entry of a chna payload, good or not.
+fn entry(payload: &[u8], i: usize) {
+    text(b":");
+    let e = chna::entry(payload, i);
+    if !e.used {
+        text(b" unused");
+        return;
+    }
+    next(e.index);
+    let uid = e.uid;
+    id(&uid);
+    let track = e.track;
+    id(&track);
+    let pack = e.pack;
+    id(&pack);
+}
+
+// Copies a chna payload, good or not.
+fn copy(payload: &[u8]) {
+    let mut out = [0u8; 84];
+    chna::copy(payload, &mut out);
+    text(b": copied");
+    compared(first(&out, payload.len()), payload);
+    let mut less = [7u8; 3];
+    chna::copy(payload, &mut less);
+    text(b", short");
+    compared(&less, &[7u8; 3]);
+}
+
 // A line: what a command that is none of the script's asks, at a place and after the number n.
 fn command(b: u8, at: u64, n: usize, file: &[u8])
     requires { ⌜ 72 ≤ length (now file) ⌝ }
@@ -289,6 +331,8 @@ fn command(b: u8, at: u64, n: usize, file: &[u8])
         b'w' => given_fmt(file),
         b'd' => given_bext(payload, file),
         b'z' => zeros(n),
+        b'e' => entry(payload, at as usize),
+        b'p' => copy(payload),
         _ => return,
     }
     text(b"\n");
