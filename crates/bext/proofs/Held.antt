@@ -7,7 +7,7 @@ use Prim.Native.Nat.{ℕ, _≤_, _<_}
 use lib.ListN.{length, take, drop, take-append-drop}
 use lib.Seq.{take-at}
 use lib.Dec.{leb}
-use borrow.Author.Tests.{le-leb, lt-leb}
+use borrow.Author.Tests.{le-leb, lt-leb, leb-true}
 use Rattle.le.specs.Number.{field}
 use Rattle.le.specs.Choice.{pick, every}
 use Rattle.chunk.specs.declared.Refusal.the-variants.{BadBext}
@@ -58,3 +58,9 @@ unfolding bextIn rulesOf every partsIn
 parts-are p w e =
     let b = check-given (every (rulesOf p)) BadBext (given (wholeIn p)) w e in
     pick-true (leb 602 (length p)) (wholeIn p) noParts (rule-and _ _ (b .0) .0) ∙ given-inj (wholeIn p) w (b .1)
+
+pub accepted-long : (p : List ℕ) (w : Whole) → bextIn p ≡ given w → 602 ≤ length p
+unfolding bextIn rulesOf every
+accepted-long p w e =
+    let b = check-given (every (rulesOf p)) BadBext (given (wholeIn p)) w e in
+    leb-true 602 (length p) (rule-and _ _ (b .0) .0)

@@ -9,7 +9,8 @@ use Rattle.chunk.specs.declared.Refusal.the-variants.{BadRecord, TooLarge}
 use Rattle.chunk.specs.Refusals.{given, check}
 use Rattle.fmt.specs.declared.Format.{Format}
 use Rattle.form.specs.declared.Form.{Form}
-use Rattle.writer.specs.Files.{openingBytes, fileBytes, formSizeFor, inputGood, sizesGood, fileOut}
+use Rattle.file_parts.specs.Parts.{openingBytes}
+use Rattle.file.specs.Files.{fileBytes, formSizeFor, inputGood, sizesGood, fileOut}
 use Rattle.words.proofs.Written.{Filled}
 use Rattle.records.proofs.Payloads.{whole, checked}
 

@@ -14,7 +14,7 @@ use Rattle.upgrade.specs.declared.Target.{Target}
 use Rattle.upgrade.specs.declared.Target.the-variants as target
 use Rattle.upgrade.specs.Upgrades.{upgraded}
 use Rattle.upgrade.specs.Words.{fileAfter}
-use Rattle.writer.specs.Files.{fileOut}
+use Rattle.file.specs.Files.{fileOut}
 use Rattle.words.specs.Answers.{Answers, WritesOut}
 use Rattle.records.specs.Writing.{ofNine}
 

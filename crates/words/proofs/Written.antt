@@ -181,3 +181,20 @@ wrote-out a out w out' w' t = cases (counted out w a) refl (t .number) (t .bytes
           fits = omega (arith, k, c .room);
           output = b ∙ ap₂ (λ (l : List ℕ) (m : ℕ). l ++ drop m out) (sym front) (sym k);
         }
+
+-- bytes for which there is room, and a word
+pub writes-given : (a : Answer (List ℕ)) (bs out w : List ℕ) (r : ℕ) (out' w' : List ℕ) → a ≡ given bs → length bs ≤ length out → 1 ≤ length w
+    → WritesOut a out w r out' w' → (r ≡ 0) × (take (getD w' 0 0) out' ≡ bs)
+unfolding counted fitting andThen writtenOf outputOf writtenNumber writtenValues
+writes-given a bs out w r out' w' e room word t =
+    let fit : fitting out a ≡ given bs =
+    ap (fitting out) e ∙ check-true (leb (length bs) (length out)) ShortOutput (given bs) (le-leb (length bs) (length out) room) in
+    let all : counted out w a ≡ given bs =
+    ap (λ (x : Answer (List ℕ)). andThen x (λ (l : List ℕ). check (leb 1 (length w)) ShortOutput (given l))) fit
+    ∙ check-true (leb 1 (length w)) ShortOutput (given bs) (le-leb 1 (length w) word) in
+    let k : getD w' 0 0 ≡ length bs =
+    ap (λ (l : List ℕ). getD l 0 0) (t .words ∙ ap (λ (x : Answer (List ℕ)). sets w 0 (writtenValues (writtenOf x))) all)
+    ∙ first-word w (length bs) word in (
+      t .number ∙ ap (λ (x : Answer (List ℕ)). writtenNumber (writtenOf x)) all,
+      ap (take (getD w' 0 0)) (t .bytes ∙ ap (outputOf out) all) ∙ take-at bs (drop (length bs) out) (getD w' 0 0) (sym k),
+    )
