@@ -251,8 +251,8 @@ fn payload_length(format: Format) -> usize
     }
 }
 
-// Stores a record's payload at the start of out, or nothing where out is too short for it. It judges nothing: that is
-// is_writable's part, and the payload of a size that no record has is of 16 bytes.
+// Stores a record's payload at the start of out, or nothing where out is too short for it. It judges nothing: a record of
+// a size other than 18 and 40 has a payload of 16 bytes.
 pub fn store(format: Format, out: &mut [u8])
     ensures { λ _. ⌜ now (out .exit) ≡ outputOf (now (out .entry)) (fitting (now (out .entry)) (given (formatBytes format))) ⌝ }
 {
