@@ -25,7 +25,7 @@ unfoldable pub runEnd : Bool → List ℕ → ℕ → ℕ
 runEnd zeros s at = at + run zeros (drop at s)
 
 -- a place in the run from a place on, less than n bytes before its end
-pub record Near (zeros : Bool) (n : ℕ) (s : List ℕ) (at r : ℕ) : Type 0 where
+pub record NearEnd (zeros : Bool) (n : ℕ) (s : List ℕ) (at r : ℕ) : Type 0 where
   pub same : runEnd zeros s r ≡ runEnd zeros s at
   pub low : r ≤ runEnd zeros s at
   pub high : runEnd zeros s at < r + n

@@ -8,7 +8,7 @@ ghost use Prim.Native.Nat.{_+_, _≤_, _<_};
 ghost use lib.ListN.{length, drop};
 ghost use lib.Dec.{ltb};
 ghost use Rattle.bext_parts.specs.Parts.{allZero, textOf, textGood, isDigit, twoDigits, isSeparator, dateGood, timeGood, setOf, restGood, textGiven, dateGiven, timeGiven, restOf, restGiven};
-ghost use Rattle.bext_parts.specs.Contracts.{partOf, runEnd, Near};
+ghost use Rattle.bext_parts.specs.Contracts.{partOf, runEnd, NearEnd};
 
 // What a part of a payload holds.
 pub enum Part {
@@ -36,7 +36,7 @@ fn ends_in(s: &[u8], at: usize, n: usize, zeros: bool) -> bool
 // Passes a run from a place on by blocks of n bytes: fewer than n of it are left.
 fn near_end(s: &[u8], at: usize, n: usize, zeros: bool) -> usize
     requires { ⌜ (at ≤ length (now s)) × (0 < n) ⌝ }
-    ensures { λ r. ⌜ Near zeros n (now (s .entry)) at r ⌝ }
+    ensures { λ r. ⌜ NearEnd zeros n (now (s .entry)) at r ⌝ }
 {
     let mut i = at;
     while n <= s.len() - i {

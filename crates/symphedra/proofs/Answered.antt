@@ -15,7 +15,7 @@ use Rattle.wave.specs.Words.{ScanDone, WalkDone}
 use Rattle.chunk.specs.Tables.{WORDS}
 use Rattle.upgrade.specs.declared.Target.{Target}
 use Rattle.upgrade.specs.Words.{UpgradeDone}
-use Rattle.symphedra.specs.Exports.{Scans, Walks, Upgrades}
+use Rattle.symphedra.specs.Exports.{Scans, Walks32, Upgrades}
 
 -- the number of a verdict that has 15 where the words are too few
 numbered : (b : Bool) (v : Verdict) → verdictNumber (pick b v (Refused ShortOutput)) ≡ pick b (verdictNumber v) 15
@@ -29,7 +29,7 @@ scan-number s w w' v r d n =
     record { returns = n ∙ ap verdictNumber (d .verdict) ∙ numbered (leb WORDS (length w)) _; words = d .words }
 
 pub walk-number : (s w w' : List ℕ) (v : Verdict) (r : ℕ) → WalkDone s w v w' → r ≡ verdictNumber v
-    → Walks s w r w'
+    → Walks32 s w r w'
 walk-number s w w' v r d n =
     record { returns = n ∙ ap verdictNumber (d .verdict) ∙ numbered (leb WORDS (length w)) _; words = d .words }
 

@@ -5,9 +5,9 @@ use mathlib.Core.Path.{_≡_, refl, sym, _∙_, ap, subst}
 use mathlib.Core.Logic.{_↔_, inl, inr}
 use mathlib.Core.Bool.{Bool, true, false}
 use mathlib.Core.List.{List, [], _∷_}
-use Prim.Native.Nat.{ℕ, _≤_, _<_, _*_, _^_}
+use Prim.Native.Nat.{ℕ, _≤_, _<_, _*_, _^_, _+_}
 use native.Mathlib.Omega.{arith}
-use lib.ListN.{length, take, getD, length-take}
+use lib.ListN.{length, take, getD, length-take, replicate}
 use lib.Seq.{sets}
 use lib.Dec.{eqb, leb}
 use borrow.Author.Tests.{le-leb, eqb-true}
@@ -44,7 +44,7 @@ use Rattle.chna.specs.declared.Reading as chna
 use Rattle.chna.specs.declared.Reading.the-variants as chna-reading
 use Rattle.chna.proofs.RoundTrip.{bytes-read-back as chna-reads-back, read-then-written as chna-again-out}
 use Rattle.chna.proofs.Pads.{zeroed-length}
-use Rattle.chna.specs.Records.{Whole as Chna, chnaIn, padsZeroed, readAs as chnaRead, chnaNumber}
+use Rattle.chna.specs.Records.{Whole as Chna, chnaIn, padsZeroed, readAs as chnaRead, chnaNumber, chnaValues, wholeOf}
 use Rattle.wave.specs.Scans.{Scan, scan, rowsOf, walk32}
 use Rattle.wave.specs.Grammar.{GoodFile, AcceptsExactly}
 use Rattle.wave.proofs.FirstHalf.{first-half}
@@ -65,10 +65,12 @@ use Rattle.words.specs.Answers.{Answers, counted}
 use Rattle.words.proofs.Numbers.{refusal-number, accepted}
 use Rattle.words.proofs.Answered.{enough, too-few, good}
 use Rattle.words.proofs.Written.{refused-out, wrote-out, writes-given}
-use Rattle.records.specs.Reading.{ReadsFmt, ReadsBext, PartsOf, placesOf, partsValues}
-use Rattle.records.specs.Writing.{formatOf, ofNine, WritesFmt, WritesBext}
-use Rattle.symphedra.specs.Exports.{Scans, Walks, Upgrades, fileOf, WritesFile}
-use Rattle.symphedra.specs.Promises.{Numbered, Demand1, writtenIn, Demand2, FirstHalf, SecondHalf, Demand3}
+use Rattle.records.specs.Reading.{ReadsFmt, ReadsBext, PartsOf, placesOf, partsValues, entryValues}
+use Rattle.records.specs.Writing.{formatOf, ofNine, WritesFmt, WritesBext, WritesChna}
+use Rattle.chna.proofs.Entries.{entry-of-record}
+use Rattle.chna_entry.specs.Entries as chna-entry
+use Rattle.symphedra.specs.Exports.{Scans, Walks32, Upgrades, fileOf, WritesFile}
+use Rattle.symphedra.specs.Promises.{Numbered, Promise1, writtenIn, Promise2, WalkPromise, UpgradePromise, Promise3}
 
 -- ---- demand 1
 
@@ -123,13 +125,35 @@ no-rows (refused q) [] r l e h = absurd (omega (arith, l))
 no-rows (refused q) (v ∷ w) r l e h = refl
 no-rows (given a) w r l e h = absurd (h e)
 
+-- a refused count or reader has zeros
+zeros-samples : (x : Samples) (r : ℕ) → r ≡ samplesNumber x → (r ≡ 0 → ⊥) → samplesValues x ≡ replicate 2 0
+unfolding samplesNumber samplesValues
+zeros-samples (samples.Count n) r e h = absurd (h e)
+zeros-samples samples.None r e h = absurd (h e)
+zeros-samples (samples.Refused x) r e h = refl
+
+zeros-fmt : (x : fmt.Reading) (r : ℕ) → r ≡ fmtNumber x → (r ≡ 0 → ⊥) → fmtValues x ≡ replicate 9 0
+unfolding fmtNumber fmtValues
+zeros-fmt (fmt-reading.Record f) r e h = absurd (h e)
+zeros-fmt (fmt-reading.Refused x) r e h = refl
+
+zeros-bext : (x : bext.Reading) (r : ℕ) → r ≡ bextNumber x → (r ≡ 0 → ⊥) → bextValues x ≡ replicate 8 0
+unfolding bextNumber bextValues
+zeros-bext (bext-reading.Record f) r e h = absurd (h e)
+zeros-bext (bext-reading.Refused x) r e h = refl
+
+zeros-chna : (x : chna.Reading) (r : ℕ) → r ≡ chnaNumber x → (r ≡ 0 → ⊥) → chnaValues x ≡ replicate 3 0
+unfolding chnaNumber chnaValues
+zeros-chna (chna-reading.Record f) r e h = absurd (h e)
+zeros-chna (chna-reading.Refused x) r e h = refl
+
 kept : (x : Answer (List ℕ)) (s : List ℕ) (r : ℕ) → r ≡ verdictNumber (verdictOf x) → (r ≡ 0 → ⊥) → fileAfter s x ≡ s
 unfolding verdictOf fileAfter
 kept (refused q) s r e h = refl
 kept (given u) s r e h = absurd (h e)
 
-pub demand-1 : Demand1
-demand-1 =
+pub promise-1 : Promise1
+promise-1 =
     record {
       scan-numbered = λ s w r w' a. numbered-answer _ _ _ _ _ _ (numbered-verdict (verdictOf (scan s))) a;
       walk-numbered = λ s w r w' a. numbered-answer _ _ _ _ _ _ (numbered-verdict (walk32 s .end)) a;
@@ -138,8 +162,14 @@ demand-1 =
       fmt-numbered = λ p w r w' a. numbered-answer _ _ _ _ _ _ (numbered-fmt (fmtRead (formatIn p))) a;
       bext-numbered = λ p w r w' a. numbered-answer _ _ _ _ _ _ (numbered-bext (bextRead (bextIn p))) a;
       chna-numbered = λ channels p w r w' a. numbered-answer _ _ _ _ _ _ (numbered-chna (chnaRead (chnaIn channels p))) a;
+      parts-numbered = λ p w r w' a. numbered-answer _ _ _ _ _ _ (numbered-verdict Accepted) a;
+      entry-numbered = λ i p w r w' a. numbered-answer _ _ _ _ _ _ (numbered-verdict Accepted) a;
       write-numbered = λ a out w r out' w' t. numbered-as r _ (t .number) (numbered-written (writtenOf (counted out w a)));
       scan-refused = λ s w r w' l a h. let e = enough _ _ _ w r w' l a in e .1 ∙ no-rows (scan s) w r l (e .0) h;
+      count-refused = λ s w r w' l a h. let e = enough _ _ _ w r w' l a in e .1 ∙ ap (sets w 0) (zeros-samples _ r (e .0) h);
+      fmt-refused = λ p w r w' l a h. let e = enough _ _ _ w r w' l a in e .1 ∙ ap (sets w 0) (zeros-fmt _ r (e .0) h);
+      bext-refused = λ p w r w' l a h. let e = enough _ _ _ w r w' l a in e .1 ∙ ap (sets w 0) (zeros-bext _ r (e .0) h);
+      chna-refused = λ channels p w r w' l a h. let e = enough _ _ _ w r w' l a in e .1 ∙ ap (sets w 0) (zeros-chna _ r (e .0) h);
       upgrade-refused = λ t s r u a h. a .bytes ∙ kept (upgraded t s) s r (a .number) h;
       write-refused = refused-out;
       too-few = too-few;
@@ -265,6 +295,12 @@ module _ (p v v' : List ℕ) (h : ReadsFmt p v 0 v') where
       ∙ fmt-writes-back p f b (fmt-read .1) rate in
       writes-given _ p out w r out' w' all room word t
 
+chna-back : (channels tracks uids : ℕ) (entries out w out' w' : List ℕ) → WritesChna channels tracks uids entries out w 0 out' w'
+    → chnaIn channels (writtenIn out' w') ≡ given (wholeOf tracks uids entries)
+unfolding writtenIn
+chna-back channels tracks uids entries out w out' w' h =
+    chna-reads-back channels tracks uids entries _ (wrote-out _ out w out' w' h .is-given)
+
 module _ (form : Form) (f b c a out w out' w' : List ℕ) (bytes : Bytes c) (small : length out < 256 ^ 8) (h : WritesFile form f b c a out w 0 out' w') where
   file-back : WayBack form (formatOf f) b c a (writtenIn out' w')
   unfolding fileOf ofNine writtenIn
@@ -278,9 +314,9 @@ module _ (form : Form) (f b c a out w out' w' : List ℕ) (bytes : Bytes c) (sma
       let g = scan-is _ v r v' (file-back .scanned) (file-back .accepted) l k in
       (g .0, g .1 ∙ ap (λ (x : List Entry). tabled x v) (file-back .rows))
 
-pub demand-2 : Demand2
-unfolding writtenIn AcceptsExactly
-demand-2 =
+pub promise-2 : Promise2
+unfolding writtenIn AcceptsExactly wholeOf
+promise-2 =
     record {
       accepts = accepts;
       table = λ s w w' a b h g.
@@ -292,8 +328,11 @@ demand-2 =
       bext-back = bext-back;
       bext-words = bext-words;
       bext-parts = bext-parts;
-      chna-back = λ channels tracks uids entries out w out' w' h.
-          chna-reads-back channels tracks uids entries _ (wrote-out _ out w out' w' h .is-given);
+      chna-back = chna-back;
+      chna-entries = λ channels tracks uids entries out w out' w' h i v r v' l k.
+          let g = enough _ _ _ v r v' l k in
+          let e = entry-of-record channels _ _ (chna-back channels tracks uids entries out w out' w' h) i in
+          (g .0, g .1 ∙ ap (λ (x : chna-entry.Entry). sets v 0 (entryValues (4 + i * 40) x)) e);
       file-back = file-back;
       file-table = file-table;
       fmt-again = λ p v v' out w r out' w' b h. fmt-again p v v' h out w r out' w' b;
@@ -305,13 +344,13 @@ demand-2 =
 
 -- ---- demand 3
 
-walk-is : (s v : List ℕ) (q : ℕ) (v' : List ℕ) (x : Walked) → walk32 s ≡ x → WORDS ≤ length v → Walks s v q v'
+walk-is : (s v : List ℕ) (q : ℕ) (v' : List ℕ) (x : Walked) → walk32 s ≡ x → WORDS ≤ length v → Walks32 s v q v'
     → (q ≡ verdictNumber (x .end)) × (v' ≡ tabled (x .rows) v)
 walk-is s v q v' x e l h =
     let g = enough _ _ _ v q v' l h in
     (g .0 ∙ ap (λ (y : Walked). verdictNumber (y .end)) e, g .1 ∙ ap (λ (y : Walked). tabled (y .rows) v) e)
 
-first : (s w w' v : List ℕ) (r : ℕ) (v' : List ℕ) → Scans s w 0 w' → WORDS ≤ length v → Walks s v r v' → FirstHalf s w w' v r v'
+first : (s w w' v : List ℕ) (r : ℕ) (v' : List ℕ) → Scans s w 0 w' → WORDS ≤ length v → Walks32 s v r v' → WalkPromise s w w' v r v'
 first s w w' v r v' a l h =
     let x = scanned s w w' a in
     let f = first-half s (x .by) (x .is) in
@@ -348,7 +387,7 @@ module _ (t : Target) (s w w' : List ℕ) (a : Scan) (r : ℕ) (u : List ℕ) (b
     (λ k. let g = half .succeeds .1 k in h .number ∙ ap (λ (x : Answer (List ℕ)). verdictNumber (verdictOf x)) (g .1)),
   )
 
-  second-of : SecondHalf t s w w' a r u
+  second-of : UpgradePromise t s w w' a r u
   second-of =
       record {
         table = table;
@@ -370,8 +409,8 @@ module _ (t : Target) (s w w' : List ℕ) (a : Scan) (r : ℕ) (u : List ℕ) (b
             (g .0, g .1 ∙ ap (λ (x : List Entry). tabled (aheadOf DATA x) v) (d .rows));
       }
 
-pub demand-3 : Demand3
-demand-3 =
+pub promise-3 : Promise3
+promise-3 =
     record {
       first = first;
       second = λ t s w w' a r u b k e riff h.

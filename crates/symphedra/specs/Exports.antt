@@ -23,8 +23,8 @@ abbrev pub Scans : (file w : List ℕ) (r : ℕ) (w' : List ℕ) → Type 0
 Scans s w r w' = Answers WORDS (verdictNumber (verdictOf (scan s))) (tabled (rowsOf (scan s)) w) w r w'
 
 -- symphedra_walk32
-abbrev pub Walks : (file w : List ℕ) (r : ℕ) (w' : List ℕ) → Type 0
-Walks s w r w' = Answers WORDS (verdictNumber (walk32 s .end)) (tabled (walk32 s .rows) w) w r w'
+abbrev pub Walks32 : (file w : List ℕ) (r : ℕ) (w' : List ℕ) → Type 0
+Walks32 s w r w' = Answers WORDS (verdictNumber (walk32 s .end)) (tabled (walk32 s .rows) w) w r w'
 
 -- symphedra_sample_count
 abbrev pub Counts : (file w : List ℕ) (r : ℕ) (w' : List ℕ) → Type 0

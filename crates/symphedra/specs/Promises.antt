@@ -5,11 +5,11 @@
 -- function has such a relation (Exports.antt, and records/specs), and it is the function's whole contract, for all that can
 -- be lent to it: "No caller has to check anything first." What C lends are bytes, fewer than 2^64; a statement that needs it
 -- says so.
-use Prim.Native.Nat.{ℕ, _≤_, _<_, _^_, _*_}
+use Prim.Native.Nat.{ℕ, _+_, _≤_, _<_, _^_, _*_}
 use mathlib.Core.Path.{_≡_}
 use mathlib.Core.Logic.{_↔_, _⊎_}
 use mathlib.Core.List.{List, [], _∷_, _++_}
-use lib.ListN.{length, take, drop, getD}
+use lib.ListN.{length, take, drop, getD, replicate}
 use lib.Seq.{sets}
 use Rattle.le.specs.Number.{Bytes}
 use Rattle.chunk.specs.declared.Entry.{Entry}
@@ -23,7 +23,8 @@ use Rattle.form.specs.declared.Form.the-variants.{Riff}
 use Rattle.bext.specs.declared.Reading.the-variants as bext
 use Rattle.bext.specs.Records.{Whole, bextIn, bextValues, numbersOf}
 use Rattle.bext.specs.Slices.{partsIn}
-use Rattle.chna.specs.Records.{Whole as Chna, chnaIn, wholeOf, padsZeroed}
+use Rattle.chna_entry.specs.Entries.{unused}
+use Rattle.chna.specs.Records.{Whole as Chna, entriesIn, chnaIn, wholeOf, padsZeroed}
 use Rattle.wave.specs.Scans.{Scan, scan}
 use Rattle.wave.specs.Grammar.{GoodFile}
 use Rattle.wave.specs.Tables.{ownField}
@@ -32,9 +33,9 @@ use Rattle.upgrade.specs.declared.Target.{Target}
 use Rattle.upgrade.specs.Demand3.{Reserved, renamed, aheadOf, Upgraded}
 use Rattle.writer.specs.WayBack.{WayBack, tableFor}
 use Rattle.words.specs.Answers.{Answers, WritesOut}
-use Rattle.records.specs.Reading.{ReadsFmt, ReadsBext, ReadsChna, PartsOf, placesOf}
+use Rattle.records.specs.Reading.{ReadsFmt, ReadsBext, PartsOf, ReadsChna, EntryOf, placesOf, entryValues}
 use Rattle.records.specs.Writing.{formatOf, WritesFmt, WritesBext, WritesChna}
-use Rattle.symphedra.specs.Exports.{Scans, Walks, Counts, Upgrades, WritesFile}
+use Rattle.symphedra.specs.Exports.{Scans, Walks32, Counts, Upgrades, WritesFile}
 
 -- ---- demand 1
 
@@ -42,18 +43,26 @@ use Rattle.symphedra.specs.Exports.{Scans, Walks, Counts, Upgrades, Writ
 unfoldable pub Numbered : ℕ → Type 0
 Numbered r = (r ≡ 0) ⊎ ((x : Refusal) × (r ≡ refusalNumber x))
 
-pub record Demand1 : Type 0 where
+pub record Promise1 : Type 0 where
   pub scan-numbered : (s w : List ℕ) (r : ℕ) (w' : List ℕ) → Scans s w r w' → Numbered r
-  pub walk-numbered : (s w : List ℕ) (r : ℕ) (w' : List ℕ) → Walks s w r w' → Numbered r
+  pub walk-numbered : (s w : List ℕ) (r : ℕ) (w' : List ℕ) → Walks32 s w r w' → Numbered r
   pub count-numbered : (s w : List ℕ) (r : ℕ) (w' : List ℕ) → Counts s w r w' → Numbered r
   pub upgrade-numbered : (t : Target) (s : List ℕ) (r : ℕ) (u : List ℕ) → Upgrades t s r u → Numbered r
   pub fmt-numbered : (p w : List ℕ) (r : ℕ) (w' : List ℕ) → ReadsFmt p w r w' → Numbered r
   pub bext-numbered : (p w : List ℕ) (r : ℕ) (w' : List ℕ) → ReadsBext p w r w' → Numbered r
   pub chna-numbered : (channels : ℕ) (p w : List ℕ) (r : ℕ) (w' : List ℕ) → ReadsChna channels p w r w' → Numbered r
+  pub parts-numbered : (p w : List ℕ) (r : ℕ) (w' : List ℕ) → PartsOf p w r w' → Numbered r
+  pub entry-numbered : (i : ℕ) (p w : List ℕ) (r : ℕ) (w' : List ℕ) → EntryOf i p w r w' → Numbered r
   -- every writer, of records and of files
   pub write-numbered : (a : Answer (List ℕ)) (out w : List ℕ) (r : ℕ) (out' w' : List ℕ) → WritesOut a out w r out' w' → Numbered r
   -- "A refused scan gives an empty table": word 0 is 0, and no other word changes
   pub scan-refused : (s w : List ℕ) (r : ℕ) (w' : List ℕ) → WORDS ≤ length w → Scans s w r w' → (r ≡ 0 → ⊥) → w' ≡ sets w 0 (0 ∷ [])
+  -- a refused count or reader gives zeros
+  pub count-refused : (s w : List ℕ) (r : ℕ) (w' : List ℕ) → 2 ≤ length w → Counts s w r w' → (r ≡ 0 → ⊥) → w' ≡ sets w 0 (replicate 2 0)
+  pub fmt-refused : (p w : List ℕ) (r : ℕ) (w' : List ℕ) → 9 ≤ length w → ReadsFmt p w r w' → (r ≡ 0 → ⊥) → w' ≡ sets w 0 (replicate 9 0)
+  pub bext-refused : (p w : List ℕ) (r : ℕ) (w' : List ℕ) → 8 ≤ length w → ReadsBext p w r w' → (r ≡ 0 → ⊥) → w' ≡ sets w 0 (replicate 8 0)
+  pub chna-refused : (channels : ℕ) (p w : List ℕ) (r : ℕ) (w' : List ℕ) → 3 ≤ length w → ReadsChna channels p w r w' → (r ≡ 0 → ⊥)
+      → w' ≡ sets w 0 (replicate 3 0)
   -- "a refused write or upgrade changes no byte"; a writer's word is 0
   pub upgrade-refused : (t : Target) (s : List ℕ) (r : ℕ) (u : List ℕ) → Upgrades t s r u → (r ≡ 0 → ⊥) → u ≡ s
   pub write-refused : (a : Answer (List ℕ)) (out w : List ℕ) (r : ℕ) (out' w' : List ℕ) → WritesOut a out w r out' w' → (r ≡ 0 → ⊥)
@@ -72,7 +81,7 @@ pub record InPlace (out out' w' : List ℕ) : Type 0 where
   pub fits : getD w' 0 0 ≤ length out
   pub rest : out' ≡ writtenIn out' w' ++ drop (getD w' 0 0) out
 
-pub record Demand2 : Type 0 where
+pub record Promise2 : Type 0 where
   -- "A scan accepts exactly the RIFF, RF64 and BW64 files that document 01 defines": the grammar of wave/specs/Grammar.antt;
   -- "with each chunk's name, place and true 64-bit size"
   pub accepts : (s w : List ℕ) (r : ℕ) (w' : List ℕ) → Bytes s → WORDS ≤ length w → Scans s w r w' → (r ≡ 0) ↔ ((a : Scan) × GoodFile s a)
@@ -93,6 +102,9 @@ pub record Demand2 : Type 0 where
   -- chna: the counts and the entries that were given
   pub chna-back : (channels tracks uids : ℕ) (entries out w out' w' : List ℕ) → WritesChna channels tracks uids entries out w 0 out' w'
       → chnaIn channels (writtenIn out' w') ≡ given (wholeOf tracks uids entries)
+  pub chna-entries : (channels tracks uids : ℕ) (entries out w out' w' : List ℕ) → WritesChna channels tracks uids entries out w 0 out' w'
+      → (i : ℕ) (v : List ℕ) (r : ℕ) (v' : List ℕ) → 5 ≤ length v → EntryOf i (writtenIn out' w') v r v'
+      → (r ≡ 0) × (v' ≡ sets v 0 (entryValues (4 + i * 40) (getD (entriesIn entries) i unused)))
   -- "records and audio": of a file of a form, a format record in nine words, the payloads b and c of bext and chna, and audio a.
   -- All of writer/specs/WayBack.antt: table, records, audio and sample count, the walk, and what an upgrade makes of it
   pub file-back : (form : Form) (f b c a out w out' w' : List ℕ) → Bytes c → length out < 256 ^ 8 → WritesFile form f b c a out w 0 out' w'
@@ -114,7 +126,7 @@ pub record Demand2 : Type 0 where
 
 -- "Take any file that the scan accepts .., and read it with the plain 32-bit walk": the words w' of the scan, and the number r
 -- and the words v' of the walk
-pub record FirstHalf (s w w' v : List ℕ) (r : ℕ) (v' : List ℕ) : Type 0 where
+pub record WalkPromise (s w w' v : List ℕ) (r : ℕ) (v' : List ℕ) : Type 0 where
   -- the scan's table
   pub rows : List Entry
   pub table : w' ≡ tabled rows w
@@ -126,7 +138,7 @@ pub record FirstHalf (s w w' v : List ℕ) (r : ℕ) (v' : List ℕ) : Type 0 wh
   pub whole : Sized s rows → (r ≡ 0) × (v' ≡ tabled rows v)
 
 -- "Now take any accepted RIFF file, and RF64 or BW64 as target": the number r and the file u that an upgrade leaves
-pub record SecondHalf (t : Target) (s w w' : List ℕ) (a : Scan) (r : ℕ) (u : List ℕ) : Type 0 where
+pub record UpgradePromise (t : Target) (s w w' : List ℕ) (a : Scan) (r : ℕ) (u : List ℕ) : Type 0 where
   pub table : w' ≡ tabled (a .rows) w
   -- "Upgrading succeeds exactly when the first chunk is JUNK of at least 28 bytes; otherwise it gives 19."
   pub succeeds : (r ≡ 0) ↔ Reserved (a .rows)
@@ -139,10 +151,10 @@ pub record SecondHalf (t : Target) (s w w' : List ℕ) (a : Scan) (r : ℕ) (u :
   -- "and so is the sample count as document 01 defines it: the same number, or none both times"
   pub count-after : r ≡ 0 → (v : List ℕ) (q q' : ℕ) (v' v'' : List ℕ) → Counts s v q v' → Counts u v q' v'' → (q' ≡ q) × (v'' ≡ v')
   -- "The 32-bit walk shows every chunk ahead of data and stops at data with 7."
-  pub walk-after : r ≡ 0 → (v : List ℕ) (q : ℕ) (v' : List ℕ) → WORDS ≤ length v → Walks u v q v'
+  pub walk-after : r ≡ 0 → (v : List ℕ) (q : ℕ) (v' : List ℕ) → WORDS ≤ length v → Walks32 u v q v'
       → (q ≡ 7) × (v' ≡ tabled (aheadOf DATA (renamed (a .rows))) v)
 
-pub record Demand3 : Type 0 where
-  pub first : (s w w' v : List ℕ) (r : ℕ) (v' : List ℕ) → Scans s w 0 w' → WORDS ≤ length v → Walks s v r v' → FirstHalf s w w' v r v'
+pub record Promise3 : Type 0 where
+  pub first : (s w w' v : List ℕ) (r : ℕ) (v' : List ℕ) → Scans s w 0 w' → WORDS ≤ length v → Walks32 s v r v' → WalkPromise s w w' v r v'
   pub second : (t : Target) (s w w' : List ℕ) (a : Scan) (r : ℕ) (u : List ℕ) → Bytes s → Scans s w 0 w' → scan s ≡ given a
-      → a .head .form ≡ Riff → Upgrades t s r u → SecondHalf t s w w' a r u
+      → a .head .form ≡ Riff → Upgrades t s r u → UpgradePromise t s w w' a r u

@@ -7,7 +7,7 @@ pub mod writers;
 use samples::Samples;
 use upgrade::Target;
 ghost use Rattle.records.specs.Reading.{ReadsFmt, ReadsBext, PartsOf, ReadsChna, EntryOf};
-ghost use Rattle.symphedra.specs.Exports.{Scans, Walks, Counts, Upgrades, rf64, bw64};
+ghost use Rattle.symphedra.specs.Exports.{Scans, Walks32, Counts, Upgrades, rf64, bw64};
 
 // The table of a file's chunks, or its refusal and no chunk.
 #[no_mangle]
@@ -20,7 +20,7 @@ pub extern "C" fn symphedra_scan(file: &[u8], table: &mut [u64]) -> u32
 // What the 32-bit walk shows, and its stop.
 #[no_mangle]
 pub extern "C" fn symphedra_walk32(file: &[u8], table: &mut [u64]) -> u32
-    ensures { λ r. ⌜ Walks (now (file .entry)) (now (table .entry)) r (now (table .exit)) ⌝ }
+    ensures { λ r. ⌜ Walks32 (now (file .entry)) (now (table .entry)) r (now (table .exit)) ⌝ }
 {
     wave::walk32_into(file, table).number()
 }
