@@ -46,12 +46,14 @@ extern "C" {
 #define SYMPHEDRA_NO_RESERVE     19u /* upgrade: first chunk isn't JUNK of 28 or more */
 
 /* Words of each output. */
-#define SYMPHEDRA_CHUNK_LIMIT   64u  /* chunks of a table */
-#define SYMPHEDRA_TABLE_WORDS  257u  /* 1 + 4 x 64 */
-#define SYMPHEDRA_COUNT_WORDS    2u
-#define SYMPHEDRA_FMT_WORDS      9u
-#define SYMPHEDRA_BEXT_WORDS     8u
-#define SYMPHEDRA_CHNA_WORDS     3u
+#define SYMPHEDRA_CHUNK_LIMIT       64u  /* chunks of a table */
+#define SYMPHEDRA_TABLE_WORDS      257u  /* 1 + 4 x 64 */
+#define SYMPHEDRA_COUNT_WORDS        2u
+#define SYMPHEDRA_FMT_WORDS          9u
+#define SYMPHEDRA_BEXT_WORDS         8u
+#define SYMPHEDRA_BEXT_PARTS_WORDS  14u  /* 2 x 7 */
+#define SYMPHEDRA_CHNA_WORDS         3u
+#define SYMPHEDRA_CHNA_ENTRY_WORDS   5u
 
 /*
  * The table of a whole file. table: at least 257 words. On return table[0] is the number of chunks,
@@ -92,10 +94,28 @@ uint32_t symphedra_read_fmt(const uint8_t *payload, size_t len, uint64_t *record
 
 /*
  * A bext payload, 8 words: lengths of the description, originator and reference texts; 1 or 0 for
- * date set, time set; time reference; version; length of the coding history's text.
+ * date set, time set; time reference; version; length of the coding history's text alone, without
+ * the zeros that may follow it.
  * A refusal sets the 8 words to 0. Returns 0, 15 or 13.
  */
 uint32_t symphedra_read_bext(const uint8_t *payload, size_t len, uint64_t *out, size_t words);
+
+/*
+ * The parts of a bext payload, 14 words: place and length of each of these seven, in this order.
+ *
+ *     0    description text, without the zeros after it
+ *     256  originator text, likewise
+ *     288  reference text, likewise
+ *     320  date: 10 bytes, or length 0 for not set, which is all zero
+ *     330  time: 8 bytes, or length 0 likewise
+ *     348  the 254 bytes after Version
+ *     602  coding history up to the payload's end, with the zeros that may follow its text
+ *
+ * It judges nothing. A payload of fewer than 602 bytes has no parts: all 14 words are 0.
+ * Of a payload that symphedra_read_bext accepts, the parts can be handed to symphedra_write_bext,
+ * with the time reference and the version: it writes the same payload. Returns 0 or 15.
+ */
+uint32_t symphedra_bext_parts(const uint8_t *payload, size_t len, uint64_t *out, size_t words);
 
 /*
  * A chna payload in a file of that many channels, 3 words: track count, UID count, number of
@@ -103,6 +123,23 @@ uint32_t symphedra_read_bext(const uint8_t *payload, size_t len, uint64_t *out, 
  */
 uint32_t symphedra_read_chna(const uint8_t *payload, size_t len, uint16_t channels,
                              uint64_t *out, size_t words);
+
+/*
+ * Entry i of a chna payload, counted from 0, is the 40 bytes at 4 + 40 i:
+ *
+ *     0   track index
+ *     2   UID, 12 bytes
+ *     14  track reference, 14 bytes
+ *     28  pack reference, 11 bytes, zeros for none; then the pad
+ *
+ * 5 words: 1, the track index, and where in the payload UID, track reference and pack reference
+ * start. They are 0 for an entry that is not used (40 zero bytes), or not there with all 40 bytes.
+ * It judges nothing. Of a payload that symphedra_read_chna accepts, the entries can be handed to
+ * symphedra_write_chna as they lie there, from byte 4 to the end, with the two counts: it writes the
+ * same payload but for the pads. Returns 0 or 15.
+ */
+uint32_t symphedra_chna_entry(const uint8_t *payload, size_t len, size_t i,
+                              uint64_t *out, size_t words);
 
 /*
  * The file writer, one function a form. fmt: exactly 9 words as symphedra_read_fmt gives them, of
