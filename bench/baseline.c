@@ -933,3 +933,47 @@ uint32_t symphedra_write_chna(uint16_t tracks, uint16_t uids,
     written[0] = 4 + entries_len;
     return SYMPHEDRA_OK;
 }
+
+/* ---- two that are not measured, and would change what gcc inlines in those that are ---- */
+
+#ifdef BASELINE_AS_SYMPHEDRA
+
+uint32_t symphedra_bext_parts(const uint8_t *payload, size_t len, uint64_t *out, size_t words)
+{
+    if (words < SYMPHEDRA_BEXT_PARTS_WORDS)
+        return SYMPHEDRA_SHORT_OUTPUT;
+    memset(out, 0, SYMPHEDRA_BEXT_PARTS_WORDS * sizeof out[0]);
+    if (len < HISTORY)
+        return SYMPHEDRA_OK;
+    const uint64_t parts[SYMPHEDRA_BEXT_PARTS_WORDS] = {
+        0, first_zero(payload, 256),
+        ORIGINATOR, first_zero(payload + ORIGINATOR, 32),
+        REFERENCE, first_zero(payload + REFERENCE, 32),
+        DATE, all_zero(payload + DATE, 10) ? 0 : 10,
+        TIME, all_zero(payload + TIME, 8) ? 0 : 8,
+        REST, 254,
+        HISTORY, len - HISTORY
+    };
+    memcpy(out, parts, sizeof parts);
+    return SYMPHEDRA_OK;
+}
+
+uint32_t symphedra_chna_entry(const uint8_t *payload, size_t len, size_t i, uint64_t *out, size_t words)
+{
+    if (words < SYMPHEDRA_CHNA_ENTRY_WORDS)
+        return SYMPHEDRA_SHORT_OUTPUT;
+    memset(out, 0, SYMPHEDRA_CHNA_ENTRY_WORDS * sizeof out[0]);
+    if (len < 4 || i >= (len - 4) / CHNA_ENTRY)
+        return SYMPHEDRA_OK;
+    size_t at = 4 + CHNA_ENTRY * i;
+    if (all_zero(payload + at, CHNA_ENTRY))
+        return SYMPHEDRA_OK;
+    out[0] = 1;
+    out[1] = le16(payload + at);
+    out[2] = at + 2;
+    out[3] = at + 14;
+    out[4] = at + 28;
+    return SYMPHEDRA_OK;
+}
+
+#endif

@@ -1,6 +1,6 @@
 /*
  * The functions of symphedra.h under the names baseline_...: the library's own declarations, renamed.
- * With -DBASELINE_AS_SYMPHEDRA they keep the library's names.
+ * With -DBASELINE_AS_SYMPHEDRA they keep the library's names, and the baseline has all of them.
  */
 #ifndef BASELINE_H
 #define BASELINE_H
