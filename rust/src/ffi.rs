@@ -45,10 +45,23 @@ mod c {
             out: *mut u64,
             words: usize,
         ) -> u32;
+        pub fn symphedra_bext_parts(
+            payload: *const u8,
+            len: usize,
+            out: *mut u64,
+            words: usize,
+        ) -> u32;
         pub fn symphedra_read_chna(
             payload: *const u8,
             len: usize,
             channels: u16,
+            out: *mut u64,
+            words: usize,
+        ) -> u32;
+        pub fn symphedra_chna_entry(
+            payload: *const u8,
+            len: usize,
+            i: usize,
             out: *mut u64,
             words: usize,
         ) -> u32;
@@ -104,8 +117,12 @@ pub const COUNT_WORDS: usize = 2;
 pub const FMT_WORDS: usize = 9;
 /// Words that the bext reader gives.
 pub const BEXT_WORDS: usize = 8;
+/// Words of a bext payload's parts: place and length of each of seven.
+pub const BEXT_PARTS_WORDS: usize = 14;
 /// Words that the chna reader gives.
 pub const CHNA_WORDS: usize = 3;
+/// Words of an entry of a chna payload.
+pub const CHNA_ENTRY_WORDS: usize = 5;
 
 /// `symphedra_scan`.
 pub fn scan(file: &[u8], table: &mut [u64]) -> u32 {
@@ -151,6 +168,12 @@ pub fn read_bext(payload: &[u8], out: &mut [u64]) -> u32 {
     unsafe { c::symphedra_read_bext(payload.as_ptr(), payload.len(), out.as_mut_ptr(), out.len()) }
 }
 
+/// `symphedra_bext_parts`.
+pub fn bext_parts(payload: &[u8], out: &mut [u64]) -> u32 {
+    // SAFETY: as this file's head says.
+    unsafe { c::symphedra_bext_parts(payload.as_ptr(), payload.len(), out.as_mut_ptr(), out.len()) }
+}
+
 /// `symphedra_read_chna`.
 pub fn read_chna(payload: &[u8], channels: u16, out: &mut [u64]) -> u32 {
     // SAFETY: as this file's head says.
@@ -162,6 +185,14 @@ pub fn read_chna(payload: &[u8], channels: u16, out: &mut [u64]) -> u32 {
             out.as_mut_ptr(),
             out.len(),
         )
+    }
+}
+
+/// `symphedra_chna_entry`.
+pub fn chna_entry(payload: &[u8], i: usize, out: &mut [u64]) -> u32 {
+    // SAFETY: as this file's head says.
+    unsafe {
+        c::symphedra_chna_entry(payload.as_ptr(), payload.len(), i, out.as_mut_ptr(), out.len())
     }
 }
 

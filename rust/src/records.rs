@@ -129,33 +129,72 @@ pub struct Bext<'a> {
     pub version: u16,
     /// The 254 bytes after the version; empty means all zero.
     pub rest: &'a [u8],
-    /// Coding history.
+    /// Coding history, with the zeros that may follow its text.
     pub history: &'a [u8],
 }
 
-/// Reads a bext payload.
+impl<'a> Bext<'a> {
+    /// The coding history's text, without the zeros after it.
+    ///
+    /// ```
+    /// let take = symphedra::Bext { history: b"A=PCM\0\0", ..Default::default() };
+    /// assert_eq!(take.history_text(), b"A=PCM");
+    /// ```
+    pub fn history_text(&self) -> &'a [u8] {
+        self.history.split(|byte| *byte == 0).next().unwrap_or_default()
+    }
+}
+
+/// Reads a bext payload. An accepted one, read and written back by [`write_bext`], gives the same bytes.
+///
+/// ```
+/// use symphedra::{read_bext, write_bext, Refusal};
+///
+/// let mut payload = [0; 610];
+/// payload[..8].copy_from_slice(b"Evensong");
+/// payload[602..607].copy_from_slice(b"A=PCM");
+/// let bext = read_bext(&payload)?;
+/// assert_eq!((bext.description, bext.history), (&b"Evensong"[..], &b"A=PCM\0\0\0"[..]));
+///
+/// let mut again = [0xFF; 610];
+/// assert_eq!(write_bext(&bext, &mut again)?, 610);
+/// assert_eq!(again, payload);
+/// assert_eq!(read_bext(&payload[..601]), Err(Refusal::BadBext));
+/// # Ok::<(), Refusal>(())
+/// ```
 pub fn read_bext(payload: &[u8]) -> Result<Bext<'_>, Refusal> {
     let mut words = [0; ffi::BEXT_WORDS];
     Refusal::check(ffi::read_bext(payload, &mut words))?;
-    let [description, originator, reference, date, time, time_reference, version, history] = words;
-    let text = |start: usize, len: u64| {
-        let rest = payload.get(start..).unwrap_or_default();
-        rest.get(..usize::try_from(len).unwrap_or(usize::MAX)).unwrap_or_default()
-    };
+    let [.., time_reference, version, _] = words;
+    let mut parts = [[0; 2]; ffi::BEXT_PARTS_WORDS / 2];
+    Refusal::check(ffi::bext_parts(payload, parts.as_flattened_mut()))?;
+    let [description, originator, reference, date, time, rest, history] =
+        parts.map(|[place, len]| part(payload, place, len));
     Ok(Bext {
-        description: text(0, description),
-        originator: text(256, originator),
-        reference: text(288, reference),
-        date: text(320, 10).try_into().ok().filter(|_| date == 1),
-        time: text(330, 8).try_into().ok().filter(|_| time == 1),
+        description,
+        originator,
+        reference,
+        date: date.try_into().ok(), // 10 bytes or none
+        time: time.try_into().ok(), // 8 bytes or none
         time_reference,
         version: version as u16, // from a 16-bit field
-        rest: text(348, 254),
-        history: text(602, history),
+        rest,
+        history,
     })
 }
 
-/// Writes a bext payload to the front of `out`; answers its size.
+/// Writes a bext payload to the front of `out`; answers its size, 602 and the history's length.
+///
+/// ```
+/// use symphedra::{write_bext, Bext, Refusal};
+///
+/// let take = Bext { time: Some(b"18:30:00"), history: b"A=PCM\r\n", ..Bext::default() };
+/// let mut payload = [0; 609];
+/// assert_eq!(write_bext(&take, &mut payload)?, 609);
+/// let late = Bext { time: Some(b"18:60:00"), ..take };
+/// assert_eq!(write_bext(&late, &mut payload), Err(Refusal::BadRecord));
+/// # Ok::<(), Refusal>(())
+/// ```
 pub fn write_bext(bext: &Bext<'_>, out: &mut [u8]) -> Result<usize, Refusal> {
     let fields = ffi::BextFields {
         description: bext.description,
@@ -237,6 +276,12 @@ pub fn read_chna(payload: &[u8], channels: u16) -> Result<Chna<'_>, Refusal> {
 /// Writes a chna payload to the front of `out`; answers its size. The pads of used entries become zero.
 pub fn write_chna(chna: &Chna<'_>, channels: u16, out: &mut [u8]) -> Result<usize, Refusal> {
     written(|word| ffi::write_chna(chna.tracks, chna.uids, chna.entries, channels, out, word))
+}
+
+/// So many bytes of a payload from that place on, both as the library told them.
+fn part(payload: &[u8], place: u64, len: u64) -> &[u8] {
+    let number = |word: u64| usize::try_from(word).unwrap_or(usize::MAX);
+    payload.get(number(place)..).and_then(|rest| rest.get(..number(len))).unwrap_or_default()
 }
 
 /// Runs a writer with the word that takes its size.

@@ -225,6 +225,19 @@ fn golden_refusals() {
     assert_eq!(folder.get("plain.wav"), plain);
 }
 
+#[test]
+fn zeros_after_a_history_are_not_shown() {
+    let folder = Folder::new();
+    let mut bext = vec![0; 602];
+    bext.extend(b"A=PCM\r\n\0\0\0");
+    let chunks: [(&[u8; 4], &[u8]); 3] = [(b"fmt ", &FMT), (b"bext", &bext), (b"data", b"")];
+    folder.put("take.wav", &file_of(b"RIFF", &chunks));
+    let (status, lines) = folder.json(&["info", "--json", "take.wav"]);
+    assert_eq!((status, &lines[0]["bext"]["history"]), (0, &"A=PCM\r\n".into()));
+    let out = folder.run(&["info", "take.wav"]).out;
+    assert!(out.contains("history       A=PCM\n  chna"), "{out}");
+}
+
 // ---- sparse files ----
 
 /// Lays out chunks with their true sizes; `None` for the bytes of a sparse one.

@@ -410,7 +410,9 @@ fn bext_texts_and_versions() {
         assert_eq!(read_bext(&bext_with(at, b"a\0b")), Err(Refusal::BadBext));
     }
     assert_eq!(read_bext(&bext_with(602, b"a\0b")), Err(Refusal::BadBext));
-    assert_eq!(read_bext(&bext_with(602, b"ab\0\0")).unwrap().history, b"ab");
+    let ends_in_zeros = bext_with(602, b"ab\0\0");
+    let bext = read_bext(&ends_in_zeros).unwrap();
+    assert_eq!((bext.history, bext.history_text()), (&b"ab\0\0"[..], &b"ab"[..]));
     for at in [348, 601] {
         let mut payload = bext_with(at, &[7]);
         assert_eq!(read_bext(&payload), Err(Refusal::BadBext));

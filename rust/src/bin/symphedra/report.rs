@@ -118,7 +118,7 @@ impl Bext {
             time: bext.time.copied(),
             time_reference: bext.time_reference,
             version: bext.version,
-            history: bext.history.to_vec(),
+            history: bext.history_text().to_vec(),
         }
     }
 }
