@@ -211,17 +211,41 @@ pub fn write_bext(bext: &Bext<'_>, out: &mut [u8]) -> Result<usize, Refusal> {
 }
 
 /// A chna record, over the payload it was read from.
+///
+/// One that is made to be written has counts and entries alone:
+///
+/// ```
+/// use symphedra::{write_chna, Chna};
+///
+/// let entries = b"\x02\0ATU_00000001AT_00010001_01AP_00010002\0";
+/// let chna = Chna { tracks: 1, uids: 1, entries, ..Chna::default() };
+/// let mut payload = [0; 44];
+/// assert_eq!(write_chna(&chna, 2, &mut payload)?, 44);
+/// assert_eq!(payload[..6], [1, 0, 1, 0, 2, 0]);
+/// # Ok::<(), symphedra::Refusal>(())
+/// ```
 #[derive(Debug, Clone, Copy, PartialEq, Eq, Default)]
 pub struct Chna<'a> {
     /// Different track indices among the used entries.
     pub tracks: u16,
     /// Used entries.
     pub uids: u16,
-    /// The entries, 40 bytes each as in the file.
+    /// The entries, 40 bytes each as in the file, which [`write_chna`] writes.
     pub entries: &'a [u8],
+    /// The payload that was read, in which [`Chna::entry`] and [`Chna::used`] look; the writer
+    /// doesn't.
+    pub payload: &'a [u8],
 }
 
 /// A used entry of a chna record.
+///
+/// ```
+/// let payload = b"\x01\0\x01\0\x02\0ATU_00000001AC_00010001_00\0\0\0\0\0\0\0\0\0\0\0\0";
+/// let entry = symphedra::read_chna(payload, 2)?.entry(0).unwrap();
+/// assert_eq!((entry.index, entry.uid), (2, &b"ATU_00000001"[..]));
+/// assert_eq!((entry.track, entry.pack), (&b"AC_00010001_00"[..], None));
+/// # Ok::<(), symphedra::Refusal>(())
+/// ```
 #[derive(Debug, Clone, Copy, PartialEq, Eq)]
 pub struct ChnaEntry<'a> {
     /// Track index, from 1.
@@ -235,32 +259,66 @@ pub struct ChnaEntry<'a> {
 }
 
 impl<'a> Chna<'a> {
-    /// The used entries, in order.
-    pub fn used(&self) -> impl Iterator<Item = ChnaEntry<'a>> {
-        self.entries.chunks_exact(40).filter_map(|entry| {
-            let (index, rest) = entry.split_first_chunk::<2>()?;
-            let pack = rest.get(26..37)?;
-            Some(ChnaEntry {
-                index: u16::from_le_bytes(*index),
-                uid: rest.get(..12)?,
-                track: rest.get(12..26)?,
-                pack: (pack != [0; 11]).then_some(pack),
-            })
-            .filter(|entry| entry.index != 0)
+    /// Entry `i` of the payload, counted from 0; `None` where it is not used or isn't there.
+    ///
+    /// ```
+    /// let mut payload = vec![1, 0, 1, 0];
+    /// payload.extend([0; 40]);
+    /// payload.extend(b"\x02\0ATU_00000001AT_00010001_01AP_00010002\0");
+    /// let chna = symphedra::read_chna(&payload, 2)?;
+    /// assert_eq!(chna.entry(0), None);
+    /// assert_eq!(chna.entry(1).unwrap().pack, Some(&b"AP_00010002"[..]));
+    /// assert_eq!(chna.entry(2), None);
+    /// # Ok::<(), symphedra::Refusal>(())
+    /// ```
+    pub fn entry(&self, i: usize) -> Option<ChnaEntry<'a>> {
+        let mut words = [0; ffi::CHNA_ENTRY_WORDS];
+        Refusal::check(ffi::chna_entry(self.payload, i, &mut words)).ok()?;
+        let [used, index, uid, track, pack] = words;
+        let pack = part(self.payload, pack, 11);
+        (used == 1).then(|| ChnaEntry {
+            index: index as u16, // from a 16-bit field
+            uid: part(self.payload, uid, 12),
+            track: part(self.payload, track, 14),
+            pack: (pack != [0; 11]).then_some(pack),
         })
+    }
+
+    /// The used entries of the payload, in order.
+    ///
+    /// ```
+    /// let mut payload = vec![1, 0, 1, 0];
+    /// payload.extend([0; 40]);
+    /// payload.extend(b"\x02\0ATU_00000001AT_00010001_01AP_00010002\0");
+    /// let chna = symphedra::read_chna(&payload, 2)?;
+    /// let indices: Vec<u16> = chna.used().map(|entry| entry.index).collect();
+    /// assert_eq!(indices, [2]);
+    /// # Ok::<(), symphedra::Refusal>(())
+    /// ```
+    pub fn used(&self) -> impl Iterator<Item = ChnaEntry<'a>> {
+        let chna = *self;
+        // 4 + 40 N bytes hold N entries.
+        (0..self.payload.len() / 40).filter_map(move |i| chna.entry(i))
     }
 }
 
-/// Reads a chna payload of a file of that many channels.
+/// Reads a chna payload of a file of that many channels. An accepted one, read and written back by
+/// [`write_chna`], gives the same bytes, but for the pads of used entries, which become zero.
 ///
 /// ```
-/// let mut payload = vec![1, 0, 1, 0, 2, 0];
-/// payload.extend(b"ATU_00000001AT_00010001_01AP_00010002\0");
-/// let chna = symphedra::read_chna(&payload, 2)?;
+/// use symphedra::{read_chna, write_chna, Refusal};
+///
+/// let mut payload = vec![1, 0, 1, 0];
+/// payload.extend(b"\x02\0ATU_00000001AT_00010001_01AP_00010002\xFF");
+/// let chna = read_chna(&payload, 2)?;
 /// assert_eq!((chna.tracks, chna.uids), (1, 1));
-/// assert_eq!(chna.used().next().unwrap().index, 2);
-/// assert_eq!(symphedra::read_chna(&payload, 1), Err(symphedra::Refusal::BadChna));
-/// # Ok::<(), symphedra::Refusal>(())
+///
+/// let mut again = [0xFF; 44];
+/// assert_eq!(write_chna(&chna, 2, &mut again)?, 44);
+/// assert_eq!(again[..43], payload[..43]);
+/// assert_eq!(again[43], 0);
+/// assert_eq!(read_chna(&payload, 1), Err(Refusal::BadChna));
+/// # Ok::<(), Refusal>(())
 /// ```
 pub fn read_chna(payload: &[u8], channels: u16) -> Result<Chna<'_>, Refusal> {
     let mut words = [0; ffi::CHNA_WORDS];
@@ -270,10 +328,21 @@ pub fn read_chna(payload: &[u8], channels: u16) -> Result<Chna<'_>, Refusal> {
         tracks: tracks as u16, // from 16-bit fields
         uids: uids as u16,
         entries: payload.get(4..).unwrap_or_default(),
+        payload,
     })
 }
 
 /// Writes a chna payload to the front of `out`; answers its size. The pads of used entries become zero.
+///
+/// ```
+/// use symphedra::{write_chna, Chna, Refusal};
+///
+/// let unused = Chna { entries: &[0; 40], ..Chna::default() };
+/// assert_eq!(write_chna(&unused, 2, &mut [0; 44])?, 44);
+/// assert_eq!(write_chna(&unused, 2, &mut [0; 43]), Err(Refusal::ShortOutput));
+/// assert_eq!(write_chna(&Chna { uids: 1, ..unused }, 2, &mut [0; 44]), Err(Refusal::BadRecord));
+/// # Ok::<(), Refusal>(())
+/// ```
 pub fn write_chna(chna: &Chna<'_>, channels: u16, out: &mut [u8]) -> Result<usize, Refusal> {
     written(|word| ffi::write_chna(chna.tracks, chna.uids, chna.entries, channels, out, word))
 }
