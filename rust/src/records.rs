@@ -38,6 +38,15 @@ pub struct Fmt {
 impl Fmt {
     /// The 16-byte record of PCM audio. [`Refusal::BadRecord`] where a product doesn't fit its field;
     /// the writers judge the rest.
+    ///
+    /// ```
+    /// use symphedra::{Fmt, Refusal};
+    ///
+    /// let stereo = Fmt::pcm(2, 48_000, 16)?;
+    /// assert_eq!((stereo.block, stereo.bytes_a_second), (4, 192_000));
+    /// assert_eq!(Fmt::pcm(2, u32::MAX, 16), Err(Refusal::BadRecord));
+    /// # Ok::<(), Refusal>(())
+    /// ```
     pub fn pcm(channels: u16, rate: u32, bits: u16) -> Result<Self, Refusal> {
         let block = channels.checked_mul(bits / 8).ok_or(Refusal::BadRecord)?;
         let bytes_a_second = rate.checked_mul(u32::from(block)).ok_or(Refusal::BadRecord)?;
@@ -86,6 +95,14 @@ impl Fmt {
 }
 
 /// Reads a fmt payload.
+///
+/// ```
+/// use symphedra::{read_fmt, Fmt, Refusal};
+///
+/// let payload = [1, 0, 1, 0, 0x40, 0x1F, 0, 0, 0x40, 0x1F, 0, 0, 1, 0, 8, 0];
+/// assert_eq!(read_fmt(&payload), Fmt::pcm(1, 8000, 8));
+/// assert_eq!(read_fmt(&payload[..15]), Err(Refusal::BadFmt));
+/// ```
 pub fn read_fmt(payload: &[u8]) -> Result<Fmt, Refusal> {
     let mut words = [0; ffi::FMT_WORDS];
     Refusal::check(ffi::read_fmt(payload, &mut words))?;
@@ -93,6 +110,16 @@ pub fn read_fmt(payload: &[u8]) -> Result<Fmt, Refusal> {
 }
 
 /// Writes a fmt payload to the front of `out`; answers its size.
+///
+/// ```
+/// use symphedra::{write_fmt, Fmt, Refusal};
+///
+/// let mono = Fmt::pcm(1, 8000, 8)?;
+/// let mut payload = [0; 16];
+/// assert_eq!(write_fmt(&mono, &mut payload)?, 16);
+/// assert_eq!(write_fmt(&Fmt { bytes_a_second: 1, ..mono }, &mut payload), Err(Refusal::BadRecord));
+/// # Ok::<(), Refusal>(())
+/// ```
 pub fn write_fmt(fmt: &Fmt, out: &mut [u8]) -> Result<usize, Refusal> {
     written(|word| ffi::write_fmt(&fmt.words(), out, word))
 }
