@@ -1,5 +1,6 @@
 //! The library beside the second implementation, over a million generated files and as many records:
-//! every export, every word and byte of every output, with guard pages around all that is lent.
+//! every export, every word and byte of every output, with guard pages around all that is lent; and
+//! the crate's own records, read and written back.
 //!
 //! SYMPHEDRA_FILES and SYMPHEDRA_SEED change how many and which.
 
@@ -10,12 +11,12 @@ mod reference;
 use generate::Rng;
 use guard::{Guarded, Side, Zeros};
 use reference::{BextFields, Chunk, FileParts, Form, Refused};
-use std::fmt::Debug;
+use std::fmt::{Debug, Display};
 use std::ops::AddAssign;
 use std::thread;
-use symphedra::ffi;
+use symphedra::{ffi, Bext, Chna, ChnaEntry};
 
-const EXPORTS: [(&str, &[u32]); 14] = [
+const EXPORTS: [(&str, &[u32]); 16] = [
     ("scan", &[0, 1, 2, 3, 4, 5, 6, 7, 8, 9, 10, 11, 12, 15]),
     ("walk32", &[0, 1, 2, 5, 6, 7, 8, 9, 15]),
     ("sample_count", &[0, 1, 2, 3, 4, 5, 6, 7, 8, 9, 10, 11, 12, 15]),
@@ -23,7 +24,9 @@ const EXPORTS: [(&str, &[u32]); 14] = [
     ("upgrade_bw64", &[0, 1, 2, 3, 4, 5, 6, 7, 8, 9, 10, 11, 12, 18, 19]),
     ("read_fmt", &[0, 11, 15]),
     ("read_bext", &[0, 13, 15]),
+    ("bext_parts", &[0, 15]),
     ("read_chna", &[0, 14, 15]),
+    ("chna_entry", &[0, 15]),
     ("write_riff", &[0, 15, 16, 17]),
     ("write_rf64", &[0, 15, 16, 17]),
     ("write_bw64", &[0, 15, 16, 17]),
@@ -82,6 +85,31 @@ struct Bench {
 
 const LARGEST_FILE: usize = 4 << 20;
 
+fn side(rng: &mut Rng) -> Side {
+    rng.pick(&[Side::Back, Side::Back, Side::Front])
+}
+
+/// Most often enough words, at times more or too few.
+fn word_count(rng: &mut Rng, enough: usize) -> usize {
+    match rng.below(32) {
+        0 => enough - 1,
+        1 => rng.below(enough),
+        2 => enough + 1 + rng.below(4),
+        _ => enough,
+    }
+}
+
+/// Compares, and on a difference says all that is needed to see it again.
+fn check<T: PartialEq + Debug>(seed: u64, what: impl Display, input: &[u8], got: T, wanted: T) {
+    if got != wanted {
+        let shown: String = input.iter().take(800).map(|byte| format!("{byte:02x}")).collect();
+        panic!(
+            "{what}, seed {seed}: got {got:?}, wanted {wanted:?}\ninput of {} bytes: {shown}",
+            input.len()
+        );
+    }
+}
+
 impl Bench {
     fn new(seed: u64) -> Self {
         Self {
@@ -96,32 +124,6 @@ impl Bench {
         }
     }
 
-    fn side(&mut self) -> Side {
-        self.rng.pick(&[Side::Back, Side::Back, Side::Front])
-    }
-
-    /// Most often enough words, at times more or too few.
-    fn word_count(&mut self, enough: usize) -> usize {
-        match self.rng.below(32) {
-            0 => enough - 1,
-            1 => self.rng.below(enough),
-            2 => enough + 1 + self.rng.below(4),
-            _ => enough,
-        }
-    }
-
-    /// Compares, counts, and on a difference says all that is needed to see it again.
-    fn check<T: PartialEq + Debug>(&self, what: &str, input: &[u8], got: T, wanted: T) {
-        if got != wanted {
-            let shown: String = input.iter().take(800).map(|byte| format!("{byte:02x}")).collect();
-            panic!(
-                "{what}, seed {}: got {got:?}, wanted {wanted:?}\ninput of {} bytes: {shown}",
-                self.seed,
-                input.len()
-            );
-        }
-    }
-
     /// A function that reads `input` and gives words: number and words as `wanted` has them, too few
     /// words 15 and none changed, and the words behind stay.
     fn words_out(
@@ -132,25 +134,38 @@ impl Bench {
         call: impl Fn(&[u8], &mut [u64]) -> u32,
         wanted: impl Fn() -> (u32, Vec<u64>),
     ) {
-        let count = self.word_count(enough);
-        let (side, other) = (self.side(), self.side());
-        let lent = self.file.copy(side, input);
-        let out = self.words.words(other, count);
-        out.fill(OLD_WORD);
-        let number = call(lent, out);
-        let got = out.to_vec();
+        let call = |lent: &[u8], (), out: &mut [u64]| call(lent, out);
+        self.words_out_for(export, input, enough, [()], call, |()| wanted());
+    }
+
+    /// The same, for each of some numbers that the function is given too.
+    fn words_out_for<T: Copy + Debug>(
+        &mut self,
+        export: &str,
+        input: &[u8],
+        enough: usize,
+        numbers: impl IntoIterator<Item = T>,
+        call: impl Fn(&[u8], T, &mut [u64]) -> u32,
+        wanted: impl Fn(T) -> (u32, Vec<u64>),
+    ) {
+        let lent = self.file.copy(side(&mut self.rng), input);
+        for given in numbers {
+            let count = word_count(&mut self.rng, enough);
+            let out = self.words.words(side(&mut self.rng), count);
+            out.fill(OLD_WORD);
+            let number = call(lent, given, out);
+            let (wanted_number, set) =
+                if count < enough { (15, Vec::new()) } else { wanted(given) };
+            let mut wanted_words = vec![OLD_WORD; count];
+            wanted_words[..set.len()].copy_from_slice(&set);
+            let what = format_args!("{export} given {given:?}");
+            check(self.seed, what, input, number, wanted_number);
+            check(self.seed, what, input, &*out, &wanted_words);
+            assert!(self.words.marks_whole(), "{export} wrote outside, seed {}", self.seed);
+            self.tally.count(export, number);
+        }
         assert!(lent == input, "{export} changed its input, seed {}", self.seed);
-        assert!(
-            self.file.marks_whole() && self.words.marks_whole(),
-            "{export} touched bytes outside, seed {}",
-            self.seed
-        );
-        let (wanted_number, set) = if count < enough { (15, Vec::new()) } else { wanted() };
-        let mut wanted_words = vec![OLD_WORD; count];
-        wanted_words[..set.len()].copy_from_slice(&set);
-        self.check(export, input, number, wanted_number);
-        self.check(export, input, got, wanted_words);
-        self.tally.count(export, number);
+        assert!(self.file.marks_whole(), "{export} touched bytes outside, seed {}", self.seed);
     }
 
     fn upgrade(
@@ -160,16 +175,15 @@ impl Bench {
         call: impl Fn(&mut [u8]) -> u32,
         wanted: Refused<Vec<u8>>,
     ) {
-        let side = self.side();
-        let lent = self.file.copy(side, file);
+        let lent = self.file.copy(side(&mut self.rng), file);
         let number = call(lent);
         let same = match &wanted {
             Ok(new) => lent == new.as_slice(),
             Err(_) => lent == file,
         };
         assert!(self.file.marks_whole(), "{export} touched bytes outside, seed {}", self.seed);
-        self.check(export, file, number, wanted.err().unwrap_or(0));
-        self.check(export, file, same, true);
+        check(self.seed, export, file, number, wanted.err().unwrap_or(0));
+        check(self.seed, export, file, same, true);
         self.tally.count(export, number);
     }
 
@@ -190,7 +204,7 @@ impl Bench {
             _ => exact,
         };
         let words = self.rng.pick(&[1, 1, 1, 1, 1, 1, 1, 1, 1, 1, 2, 0]);
-        let sides: [Side; 10] = std::array::from_fn(|_| self.side());
+        let sides: [Side; 10] = std::array::from_fn(|_| side(&mut self.rng));
         let out = self.out.bytes(sides[8], room);
         out.fill(OLD_BYTE);
         let written = self.written.words(sides[9], words);
@@ -216,9 +230,9 @@ impl Bench {
             && self.inputs[..inputs.len()].iter().all(Guarded::marks_whole);
         assert!(whole, "{export} touched bytes outside, seed {}", self.seed);
         let input = inputs.concat();
-        self.check(export, &input, number, wanted.as_ref().err().copied().unwrap_or(0));
-        self.check(export, &input, out_good, true);
-        self.check(export, &input, got_words, wanted_words);
+        check(self.seed, export, &input, number, wanted.as_ref().err().copied().unwrap_or(0));
+        check(self.seed, export, &input, out_good, true);
+        check(self.seed, export, &input, got_words, wanted_words);
         self.tally.count(export, number);
     }
 
@@ -272,13 +286,61 @@ impl Bench {
         self.words_out("read_bext", payload, 8, ffi::read_bext, || {
             words(reference::read_bext(payload))
         });
+        self.words_out("bext_parts", payload, 14, ffi::bext_parts, || {
+            (0, reference::bext_parts(payload).to_vec())
+        });
+        self.bext_by_the_crate(payload);
+    }
+
+    /// The crate's record; read and written back, the same bytes.
+    fn bext_by_the_crate(&self, payload: &[u8]) {
+        let got = symphedra::read_bext(payload).map_err(|refusal| refusal.number());
+        check(self.seed, "the crate's bext", payload, got, bext(payload));
+        if let Ok(bext) = got {
+            let text = reference::read_bext(payload).map(|words| words[7] as usize);
+            check(self.seed, "history_text", payload, Ok(bext.history_text().len()), text);
+            let mut out = vec![OLD_BYTE; payload.len()];
+            let size = symphedra::write_bext(&bext, &mut out);
+            check(self.seed, "bext written back", payload, size, Ok(payload.len()));
+            check(self.seed, "bext written back", payload, &out[..], payload);
+        }
     }
 
     fn read_chna(&mut self, payload: &[u8], channels: u16) {
-        let call = |payload: &[u8], out: &mut [u64]| ffi::read_chna(payload, channels, out);
-        self.words_out("read_chna", payload, 3, call, || {
+        self.words_out_for("read_chna", payload, 3, [channels], ffi::read_chna, |channels| {
             words(reference::read_chna(payload, channels))
         });
+        let far = self.rng.pick(&FAR_ENTRIES);
+        let numbers = (0..payload.len() / 40 + 2).chain([far]);
+        self.words_out_for("chna_entry", payload, 5, numbers, ffi::chna_entry, |i| {
+            (0, reference::chna_entry(payload, i).to_vec())
+        });
+        self.chna_by_the_crate(payload, channels);
+    }
+
+    /// The crate's record and its entries; read and written back, the same bytes but for the pads.
+    fn chna_by_the_crate(&self, payload: &[u8], channels: u16) {
+        let got = symphedra::read_chna(payload, channels).map_err(|refusal| refusal.number());
+        let wanted = reference::read_chna(payload, channels).map(|[tracks, uids, _]| Chna {
+            tracks: tracks as u16,
+            uids: uids as u16,
+            entries: &payload[4..],
+            payload,
+        });
+        check(self.seed, "the crate's chna", payload, got, wanted);
+        if let Ok(chna) = got {
+            let numbers = 0..payload.len() / 40 + 2;
+            let got: Vec<_> = numbers.clone().map(|i| chna.entry(i)).collect();
+            let wanted: Vec<_> = numbers.map(|i| entry(payload, i)).collect();
+            let used: Vec<_> = wanted.iter().copied().flatten().collect();
+            check(self.seed, "the crate's entries", payload, got, wanted);
+            check(self.seed, "the crate's used entries", payload, chna.used().collect(), used);
+            let wanted = reference::write_chna(chna.tracks, chna.uids, chna.entries, channels);
+            let mut out = vec![OLD_BYTE; payload.len()];
+            let size = symphedra::write_chna(&chna, channels, &mut out);
+            check(self.seed, "chna written back", payload, size, Ok(payload.len()));
+            check(self.seed, "chna written back", payload, Ok(out), wanted);
+        }
     }
 
     /// Records made for the readers and the writers, apart from any file.
@@ -321,6 +383,11 @@ impl Bench {
     fn bext_record(&mut self) {
         let payload = generate::bext(&mut self.rng);
         self.read_bext(&payload);
+        if self.rng.once_in(4) {
+            let len = self.rng.pick(&[0, 1, 600, 601, 602, 603, 700]);
+            let payload = generate::rough(&mut self.rng, len);
+            self.read_bext(&payload);
+        }
         let rng = &mut self.rng;
         let mut fields: [Vec<u8>; 7] = [
             generate::a_text(rng, 256),
@@ -394,6 +461,11 @@ impl Bench {
         let channels = self.rng.pick(&[0, 1, 2, 5, 64, 1000, 0xFFFF]);
         let payload = generate::chna(&mut self.rng, channels);
         self.read_chna(&payload, channels);
+        if self.rng.once_in(4) {
+            let len = self.rng.pick(&[0, 3, 4, 43, 44, 45, 83, 84, 300]);
+            let payload = generate::rough(&mut self.rng, len);
+            self.read_chna(&payload, channels);
+        }
         if payload.len() < 4 {
             return;
         }
@@ -472,6 +544,63 @@ impl Bench {
             self.tally.count(export, number);
         }
     }
+
+    /// Places and lengths that 32 bits don't hold.
+    fn past_4_gib(&mut self) {
+        let mut memory = Zeros::new((1 << 32) + 4096);
+        // An entry across the border, and the last one.
+        let used = [(1 << 32) / 40, (memory.bytes().len() - 4) / 40 - 1];
+        for i in used {
+            memory.bytes_mut()[4 + 40 * i..][..40].fill(7);
+        }
+        let payload = memory.bytes();
+        let mut parts = [OLD_WORD; 14];
+        assert_eq!(ffi::bext_parts(payload, &mut parts), 0);
+        assert_eq!(parts, reference::bext_parts(payload));
+        self.tally.count("bext_parts", 0);
+        for i in used.iter().flat_map(|i| i - 1..=i + 1) {
+            let mut words = [OLD_WORD; 5];
+            assert_eq!(ffi::chna_entry(payload, i, &mut words), 0);
+            assert_eq!(words, reference::chna_entry(payload, i), "entry {i}");
+            assert_eq!(words[0] == 1, used.contains(&i), "entry {i}");
+            self.tally.count("chna_entry", 0);
+        }
+    }
+}
+
+/// Entries that no payload has; in 64 bits 4 + 40 i of the last two is that of entries 0 and 1.
+const FAR_ENTRIES: [usize; 5] =
+    [usize::MAX, usize::MAX / 40, usize::MAX / 40 + 1, 1 << 61, (1 << 61) + 1];
+
+/// The record that the crate should read.
+fn bext(payload: &[u8]) -> Refused<Bext<'_>> {
+    let [.., time_reference, version, _] = reference::read_bext(payload)?;
+    let parts = reference::bext_parts(payload).map(|word| word as usize);
+    let part = |i: usize| &payload[parts[2 * i]..][..parts[2 * i + 1]];
+    Ok(Bext {
+        description: part(0),
+        originator: part(1),
+        reference: part(2),
+        date: part(3).try_into().ok(),
+        time: part(4).try_into().ok(),
+        time_reference,
+        version: version as u16,
+        rest: part(5),
+        history: part(6),
+    })
+}
+
+/// The entry that the crate should give.
+fn entry(payload: &[u8], i: usize) -> Option<ChnaEntry<'_>> {
+    let [used, index, places @ ..] = reference::chna_entry(payload, i);
+    let [uid, track, pack] = places.map(|place| &payload[place as usize..]);
+    let pack = &pack[..11.min(pack.len())];
+    (used == 1).then(|| ChnaEntry {
+        index: index as u16,
+        uid: &uid[..12],
+        track: &track[..14],
+        pack: pack.starts_with(b"AP_").then_some(pack),
+    })
 }
 
 type FileWriter = fn(&[u64], &[u8], &[u8], &[u8], &mut [u8], &mut [u64]) -> u32;
@@ -525,6 +654,7 @@ fn a_million_files_and_records() {
                     }
                     if thread == 0 {
                         bench.too_large();
+                        bench.past_4_gib();
                     }
                     bench.tally
                 })

@@ -285,6 +285,21 @@ pub fn chna(rng: &mut Rng, channels: u16) -> Vec<u8> {
     payload
 }
 
+/// Bytes without a plan: runs of zeros and of noise.
+pub fn rough(rng: &mut Rng, len: usize) -> Vec<u8> {
+    let mut bytes = Vec::with_capacity(len + 80);
+    while bytes.len() < len {
+        let run = 1 + rng.below(80);
+        if rng.once_in(2) {
+            bytes.resize(bytes.len() + run, 0);
+        } else {
+            bytes.extend(rng.bytes(run));
+        }
+    }
+    bytes.truncate(len);
+    bytes
+}
+
 // ---- files ----
 
 struct Part {

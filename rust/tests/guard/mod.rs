@@ -99,17 +99,18 @@ impl Drop for Guarded {
     }
 }
 
-/// Zeros of any length that take no memory until they are read.
+/// Zeros of any length that take no memory until they are touched.
 pub struct Zeros {
-    base: *const u8,
+    base: *mut u8,
     len: usize,
 }
 
 impl Zeros {
     pub fn new(len: usize) -> Self {
         let flags = libc::MAP_PRIVATE | libc::MAP_ANONYMOUS | libc::MAP_NORESERVE;
-        // SAFETY: a new anonymous mapping, only ever read.
-        let base = unsafe { libc::mmap(ptr::null_mut(), len, libc::PROT_READ, flags, -1, 0) };
+        let access = libc::PROT_READ | libc::PROT_WRITE;
+        // SAFETY: a new anonymous mapping.
+        let base = unsafe { libc::mmap(ptr::null_mut(), len, access, flags, -1, 0) };
         assert_ne!(base, libc::MAP_FAILED, "no room to map");
         Self { base: base.cast(), len }
     }
@@ -118,11 +119,16 @@ impl Zeros {
         // SAFETY: mapped and readable for this length.
         unsafe { std::slice::from_raw_parts(self.base, self.len) }
     }
+
+    pub fn bytes_mut(&mut self) -> &mut [u8] {
+        // SAFETY: mapped and writable for this length, borrowed from `self`.
+        unsafe { std::slice::from_raw_parts_mut(self.base, self.len) }
+    }
 }
 
 impl Drop for Zeros {
     fn drop(&mut self) {
         // SAFETY: the whole mapping of `new`.
-        unsafe { libc::munmap(self.base.cast_mut().cast(), self.len) };
+        unsafe { libc::munmap(self.base.cast(), self.len) };
     }
 }

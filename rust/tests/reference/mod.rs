@@ -317,6 +317,48 @@ pub fn read_bext(payload: &[u8]) -> Refused<[u64; 8]> {
     read(payload).ok_or(13)
 }
 
+/// Place and length of each part: the texts, date and time, the 254 bytes, the coding history. Nothing
+/// is judged; a payload of fewer than 602 bytes has no parts.
+pub fn bext_parts(payload: &[u8]) -> [u64; 14] {
+    enum Field {
+        Text,
+        Stamp,
+        Number,
+        Bytes,
+    }
+    use Field::{Bytes, Number, Stamp, Text};
+    if payload.len() < 602 {
+        return [0; 14];
+    }
+    let fields = [
+        (256, Text), // Description
+        (32, Text),  // Originator
+        (32, Text),  // Reference
+        (10, Stamp),
+        (8, Stamp),
+        (4, Number), // TimeReference low
+        (4, Number), // and high
+        (2, Number), // Version
+        (254, Bytes),
+        (payload.len() - 602, Bytes), // the coding history
+    ];
+    let mut parts = Vec::new();
+    let mut at = 0;
+    for (width, field) in fields {
+        let bytes = &payload[at..at + width];
+        let length = match field {
+            Text => bytes.iter().position(|byte| *byte == 0).unwrap_or(width),
+            Stamp if bytes.iter().all(|byte| *byte == 0) => 0, // not set
+            _ => width,
+        };
+        if !matches!(field, Number) {
+            parts.extend([at as u64, length as u64]);
+        }
+        at += width;
+    }
+    parts.try_into().unwrap()
+}
+
 fn hex(bytes: &[u8]) -> bool {
     bytes.iter().all(u8::is_ascii_hexdigit)
 }
@@ -362,6 +404,23 @@ pub fn read_chna(payload: &[u8], channels: u16) -> Refused<[u64; 3]> {
         return Err(14);
     }
     Ok([tracks, uids, entries.len() as u64])
+}
+
+/// 1, the track index, and where UID, track reference and pack reference start; zeros for an entry
+/// that is not used or isn't there. Nothing is judged.
+pub fn chna_entry(payload: &[u8], i: usize) -> [u64; 5] {
+    let at = 4 + 40 * i as u128;
+    if at + 40 > payload.len() as u128 {
+        return [0; 5];
+    }
+    let at = at as usize;
+    let entry = &payload[at..at + 40];
+    if !used(entry) {
+        return [0; 5];
+    }
+    let (uid, track) = (at + 2, at + 2 + 12);
+    let pack = track + 14;
+    [1, le(&entry[0..2]), uid as u64, track as u64, pack as u64]
 }
 
 // ---- The 32-bit walk ----
