@@ -1,9 +1,10 @@
 //! The document's own cases, through the safe crate: the whole file of 84 bytes, the twelve cases at
-//! the edges, reserves, 64 and 65 chunks, and each edge of each record's rules.
+//! the edges, reserves, 64 and 65 chunks, and each edge of each record's rules. The parts of bext and
+//! the entries of chna are also looked at word by word.
 
 use symphedra::{
-    read_bext, read_chna, read_fmt, sample_count, scan, upgrade, walk32, write_bext, write_chna,
-    write_file, write_fmt, written_len, Bext, Chna, Fmt, Form, Refusal, Target,
+    ffi, read_bext, read_chna, read_fmt, sample_count, scan, upgrade, walk32, write_bext,
+    write_chna, write_file, write_fmt, written_len, Bext, Chna, Fmt, Form, Refusal, Target,
 };
 
 type Row = ([u8; 4], u64, u64);
@@ -454,6 +455,101 @@ fn bext_reads_back_as_written() {
     assert_eq!(write_bext(&bext, &mut [0; 608]), Err(Refusal::ShortOutput));
 }
 
+fn bext_parts(payload: &[u8]) -> [u64; 14] {
+    let mut words = [9; 14];
+    assert_eq!(ffi::bext_parts(payload, &mut words), 0);
+    words
+}
+
+/// The lengths of the seven parts, their places being as they always are.
+fn part_lengths(payload: &[u8]) -> [u64; 7] {
+    let words = bext_parts(payload);
+    let places: [u64; 7] = std::array::from_fn(|i| words[2 * i]);
+    assert_eq!(places, [0, 256, 288, 320, 330, 348, 602]);
+    std::array::from_fn(|i| words[2 * i + 1])
+}
+
+#[test]
+fn bext_parts_at_602_bytes() {
+    for len in [0, 1, 256, 348, 601] {
+        assert_eq!(bext_parts(&vec![b'x'; len]), [0; 14], "{len} bytes");
+    }
+    assert_eq!(bext_parts(&[0; 602]), [0, 0, 256, 0, 288, 0, 320, 0, 330, 0, 348, 254, 602, 0]);
+    // Full texts, and no byte that is zero.
+    assert_eq!(part_lengths(&[b'x'; 602]), [256, 32, 32, 10, 8, 254, 0]);
+    assert_eq!(part_lengths(&[b'x'; 603]), [256, 32, 32, 10, 8, 254, 1]);
+}
+
+#[test]
+fn bext_parts_are_not_judged() {
+    // A text ends at its first zero, whatever follows.
+    for (at, i) in [(0, 0), (256, 1), (288, 2)] {
+        let mut wanted = [0, 0, 0, 0, 0, 254, 0];
+        assert_eq!(part_lengths(&bext_with(at, b"\0b")), wanted);
+        wanted[i] = 1;
+        assert_eq!(part_lengths(&bext_with(at, b"a\0b")), wanted);
+    }
+    // A date or time that is zero in part is set, wherever its one other byte stands.
+    for at in 320..338 {
+        let wanted = if at < 330 { [0, 0, 0, 10, 0, 254, 0] } else { [0, 0, 0, 0, 8, 254, 0] };
+        let payload = bext_with(at, &[1]);
+        assert_eq!((part_lengths(&payload), read_bext(&payload).is_ok()), (wanted, false));
+    }
+    // Numbers are no parts, and bytes after version 0 are one like others.
+    for at in [338, 345, 346, 347, 348, 601] {
+        assert_eq!(part_lengths(&bext_with(at, &[1])), [0, 0, 0, 0, 0, 254, 0], "byte {at}");
+    }
+    // The history has all that follows, zeros too.
+    for history in [&b"ab"[..], b"ab\0\0", b"\0", b"\0ab\0"] {
+        let wanted = [0, 0, 0, 0, 0, 254, history.len() as u64];
+        assert_eq!(part_lengths(&bext_with(602, history)), wanted, "{history:?}");
+    }
+}
+
+#[test]
+fn an_accepted_bext_is_written_back() {
+    let mut full = vec![b'x'; 320];
+    full.extend(b"2024-02-2924:00:00");
+    full.extend([0xFF; 10]); // time reference and version
+    full.extend((0..254).collect::<Vec<u8>>());
+    full.extend(b"A=PCM\r\n");
+    let mut zeros_behind = full.clone();
+    zeros_behind.extend([0; 5]);
+    for payload in [vec![0; 602], vec![0; 603], bext_with(602, b"a\0"), full, zeros_behind] {
+        let mut out = vec![0xEE; payload.len() + 1];
+        assert_eq!(write_bext(&read_bext(&payload).unwrap(), &mut out), Ok(payload.len()));
+        assert_eq!(out[..payload.len()], payload);
+        assert_eq!(out[payload.len()], 0xEE);
+    }
+}
+
+/// 15 and no word changed where there are too few; words past the answer stay.
+fn words_at_the_edges(enough: usize, call: impl Fn(&mut [u64]) -> u32) {
+    for count in 0..enough {
+        let mut words = vec![9; count];
+        assert_eq!(call(&mut words), 15, "{count} words");
+        assert_eq!(words, vec![9; count]);
+    }
+    let mut exact = vec![9; enough];
+    assert_eq!(call(&mut exact), 0);
+    assert!(exact.iter().all(|word| *word != 9));
+    let mut more = vec![9; enough + 3];
+    assert_eq!(call(&mut more), 0);
+    assert_eq!(more[..enough], exact);
+    assert_eq!(more[enough..], [9; 3]);
+}
+
+#[test]
+fn too_few_words_for_parts_and_entries() {
+    // The answers, and those of zeros.
+    for payload in [&[b'x'; 602][..], &[0; 602], &[0; 601], &[]] {
+        words_at_the_edges(14, |words| ffi::bext_parts(payload, words));
+    }
+    for (payload, i) in [(&[b'x'; 44][..], 0), (&[0; 44], 0), (&[0; 43], 0), (&[], usize::MAX)] {
+        words_at_the_edges(5, |words| ffi::chna_entry(payload, i, words));
+    }
+}
+
 fn chna_of(tracks: u16, uids: u16, entries: &[(u16, &str, u8)]) -> Vec<u8> {
     let mut payload = [tracks.to_le_bytes(), uids.to_le_bytes()].concat();
     for (index, text, pad) in entries {
@@ -526,6 +622,74 @@ fn chna_reads_back_but_for_the_pad() {
     write_file(Form::Bw64, &fmt, b"", &payload, b"", &mut file).unwrap();
     let chunk = scan(&file).unwrap().find(b"chna").unwrap();
     assert_eq!(chunk.payload(&file), Some(&wanted[..]));
+}
+
+fn chna_entry(payload: &[u8], i: usize) -> [u64; 5] {
+    let mut words = [9; 5];
+    assert_eq!(ffi::chna_entry(payload, i, &mut words), 0);
+    words
+}
+
+#[test]
+fn chna_entries_by_place() {
+    let good = "ATU_00000001AT_00010001_01AP_00010002";
+    let payload = chna_of(2, 2, &[(0x0201, good, 0), (0, "", 0), (0xFFFF, good, 7)]);
+    assert_eq!(chna_entry(&payload, 0), [1, 0x0201, 6, 18, 32]);
+    assert_eq!(payload[6..18], *b"ATU_00000001");
+    assert_eq!(payload[18..32], *b"AT_00010001_01");
+    assert_eq!(payload[32..43], *b"AP_00010002");
+    assert_eq!(chna_entry(&payload, 1), [0; 5]); // not used
+    assert_eq!(chna_entry(&payload, 2), [1, 0xFFFF, 86, 98, 112]);
+    // Past the end; 40 x 2^61 is a multiple of 2^64.
+    for i in [3, 4, 1 << 32, usize::MAX / 40, usize::MAX / 40 + 1, 1 << 61, usize::MAX] {
+        assert_eq!(chna_entry(&payload, i), [0; 5], "entry {i}");
+    }
+    // An entry that isn't there whole isn't there; bytes behind one don't matter.
+    assert_eq!(chna_entry(&payload[..123], 2), [0; 5]);
+    assert_eq!(chna_entry(&payload[..123], 0), [1, 0x0201, 6, 18, 32]);
+    for len in [0, 1, 3, 4, 43] {
+        assert_eq!(chna_entry(&payload[..len], 0), [0; 5], "{len} bytes");
+    }
+    assert_eq!(chna_entry(&payload[..44], 0), [1, 0x0201, 6, 18, 32]);
+}
+
+#[test]
+fn chna_entries_are_not_judged() {
+    // One byte that isn't zero makes an entry used, the pad too, and the index may be 0.
+    for at in 0..40 {
+        let mut payload = [0; 44];
+        payload[4 + at] = 1;
+        let index = [1, 256].get(at).copied().unwrap_or(0);
+        assert_eq!(chna_entry(&payload, 0), [1, index, 6, 18, 32], "byte {at}");
+        assert_eq!(read_chna(&payload, 2), Err(Refusal::BadChna));
+    }
+    // The counts aren't looked at, nor how many entries there are.
+    let mut payload = vec![0; 4 + 40 * 1025];
+    assert_eq!(chna_entry(&payload, 1024), [0; 5]);
+    payload[..4].fill(0xFF);
+    assert_eq!(chna_entry(&payload, 0), [0; 5]);
+    payload[4 + 40 * 1024] = 5;
+    assert_eq!(chna_entry(&payload, 1024), [1, 5, 40_966, 40_978, 40_992]);
+}
+
+#[test]
+fn chna_entries_by_the_crate() {
+    let (good, no_pack) = ("ATU_00000001AT_00010001_01AP_00010002", "ATU_00000002AC_00010002_00");
+    let payload = chna_of(2, 2, &[(0, "", 0), (2, good, 9), (1, no_pack, 0)]);
+    let chna = read_chna(&payload, 2).unwrap();
+    let (first, second) = (chna.entry(1).unwrap(), chna.entry(2).unwrap());
+    assert_eq!((first.index, first.uid), (2, &b"ATU_00000001"[..]));
+    assert_eq!((first.track, first.pack), (&b"AT_00010001_01"[..], Some(&b"AP_00010002"[..])));
+    assert_eq!((second.index, second.uid), (1, &b"ATU_00000002"[..]));
+    assert_eq!((second.track, second.pack), (&b"AC_00010002_00"[..], None));
+    for i in [0, 3, usize::MAX] {
+        assert_eq!(chna.entry(i), None);
+    }
+    assert_eq!(chna.used().collect::<Vec<_>>(), [first, second]);
+    // A record that is made to be written has no payload to look in.
+    let made = Chna { payload: b"", ..chna };
+    assert_eq!((made.entry(1), made.used().next()), (None, None));
+    assert_eq!(write_chna(&made, 2, &mut [0; 124]), Ok(124));
 }
 
 #[test]
