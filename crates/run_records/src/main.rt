@@ -159,33 +159,28 @@ fn flag(b: bool) {
 // The fields of bext.
 fn bext_fields(r: Bext) {
     text(b" 0");
-    next(r.description);
-    next(r.originator);
-    next(r.reference);
-    flag(r.date);
-    flag(r.time);
+    next(r.description_len);
+    next(r.originator_len);
+    next(r.reference_len);
+    flag(r.date_set);
+    flag(r.time_set);
     next(r.timeref);
     next(r.version);
-    next(r.history);
-}
-
-// 10 or 8 bytes where date or time is set.
-fn if_set(set: bool, n: usize) -> usize {
-    if set { n } else { 0 }
+    next(r.history_len);
 }
 
 // The bext that was read from a payload, written.
 fn bext_into(r: Bext, payload: &[u8], out: &mut [u8]) -> Written {
     bext::write(
-        first(payload, r.description as usize),
-        part(payload, 256, r.originator as usize),
-        part(payload, 288, r.reference as usize),
-        part(payload, 320, if_set(r.date, 10)),
-        part(payload, 330, if_set(r.time, 8)),
+        bext::slices::description(payload),
+        bext::slices::originator(payload),
+        bext::slices::reference(payload),
+        bext::slices::date(payload),
+        bext::slices::time(payload),
         r.timeref,
         r.version,
-        part(payload, 348, 254),
-        part(payload, 602, payload.len()),
+        bext::slices::rest(payload),
+        bext::slices::history(payload),
         out,
     )
 }
