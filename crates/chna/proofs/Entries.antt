@@ -6,15 +6,17 @@ use mathlib.Core.List.{List}
 use Prim.Native.Nat.{ℕ, zero, suc, _+_, _*_, _/_, _<_, _≤_}
 use native.Mathlib.Omega.{arith}
 use lib.ListN.{length, take, drop, getD, length-take, length-drop, List·getD-eq-default}
-use lib.Seq.{drop-drop}
-use lib.Dec.{ltb}
-use borrow.Author.Tests.{ltb-true, ltb-false}
+use lib.Seq.{drop-drop, drop-at, take-add, take-take, length-take-le}
+use lib.Dec.{leb, ltb}
+use borrow.Author.Tests.{leb-true, leb-false, ltb-true, ltb-false}
+use Rattle.le.specs.Choice.{pick}
 use Rattle.le.specs.Number.{field}
 use Rattle.le.proofs.Laws.{field-length}
 use Rattle.chunk.specs.Refusals.{given}
-use Rattle.chna_entry.specs.Entries.{unused, entryIn}
+use Rattle.chna_entry.specs.Ids.{fits, UNUSED}
+use Rattle.chna_entry.specs.Entries.{Used, unused, used, usedIn, entryIn}
 use Rattle.chna_entry.proofs.Values.{not-whole, whole}
-use Rattle.chna.specs.Records.{entryAt, entriesAt, entriesIn, Whole, wholeOf, wholeIn, chnaIn}
+use Rattle.chna.specs.Records.{entryAt, EntryStands, entriesAt, entriesIn, Whole, wholeOf, wholeIn, chnaIn}
 use Rattle.chna.proofs.Counts.{entries-count}
 use Rattle.chna.proofs.Answers.{accepted}
 
@@ -59,3 +61,37 @@ pub entry-of-record : (channels : ℕ) (p : List ℕ) (w : Whole) → chnaIn cha
 unfolding wholeIn wholeOf
 entry-of-record channels p w e i =
     each i p ∙ ap (λ (x : Whole). getD (x .entries) i unused) (accepted channels p w e .is)
+
+-- ---- where the parts of a used entry stand
+
+-- a part of a part
+field-in : (n k m at : ℕ) (p : List ℕ) → at + (k + m) ≤ length p → n ≤ m → field n k (field (k + m) at p) ≡ field n (at + k) p
+unfolding field
+field-in n k m at p fits h =
+    let q : List ℕ = drop at p in
+    ap (λ (l : List ℕ). take n (drop k l)) (take-add k m q)
+    ∙ ap (take n) (drop-at (take k q) (take m (drop k q)) k (length-take-le k q (omega (arith, length-drop at p))))
+    ∙ take-take n m (drop k q) h
+    ∙ ap (take n) (drop-drop k at p)
+
+pub entry-stands : (i : ℕ) (p : List ℕ) (u : Used) → entryAt i p ≡ used u → EntryStands i p u
+unfolding entryIn usedIn pick
+entry-stands i p u e = by (leb (4 + i * 40 + 40) (length p)) refl
+  where
+    in-it : 4 + i * 40 + 40 ≤ length p → (b : Bool) → pick b unused (used (usedIn (field 40 (4 + i * 40) p))) ≡ used u → EntryStands i p u
+    in-it h true f = absurd (let z : _≡_ {A = ℕ} 0 1 = cc in omega arith)
+    in-it h false f =
+        let g : usedIn (field 40 (4 + i * 40) p) ≡ u = cc in
+        record {
+          uid = sym (field-in 12 2 38 (4 + i * 40) p (omega arith) (omega arith)) ∙ ap (λ (x : Used). x .uid) g;
+          track = sym (field-in 14 14 26 (4 + i * 40) p (omega arith) (omega arith)) ∙ ap (λ (x : Used). x .track) g;
+          pack = sym (field-in 11 28 12 (4 + i * 40) p (omega arith) (omega arith)) ∙ ap (λ (x : Used). x .pack) g;
+        }
+
+    by : (b : Bool) → leb (4 + i * 40 + 40) (length p) ≡ b → EntryStands i p u
+    by true h =
+        let there : 4 + i * 40 + 40 ≤ length p = leb-true (4 + i * 40 + 40) (length p) h in
+        in-it there (fits UNUSED (field 40 (4 + i * 40) p)) (sym (entry-there i p there) ∙ e)
+    by false h =
+        let past : unused ≡ used u = sym (entry-past i p (leb-false (4 + i * 40 + 40) (length p) h)) ∙ e in
+        absurd (let z : _≡_ {A = ℕ} 0 1 = cc in omega arith)

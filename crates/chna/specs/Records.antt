@@ -1,5 +1,6 @@
 -- Document 01, "chna" (002 8): the record that a payload holds, or 14; the payload of a record, or 16.
 use Prim.Native.Nat.{ℕ, zero, suc, _+_, _-_, _*_, _/_, _%_}
+use mathlib.Core.Path.{_≡_}
 use mathlib.Core.Bool.{Bool, true, false, _&&_}
 use mathlib.Core.List.{List, [], _∷_, _++_}
 use lib.ListN.{length, take, drop, set, replicate}
@@ -8,7 +9,7 @@ use Rattle.le.specs.Number.{bytes, field, number}
 use Rattle.le.specs.Choice.{pick, every}
 use Rattle.chunk.specs.declared.Refusal.the-variants.{BadChna, BadRecord}
 use Rattle.chunk.specs.Refusals.{refusalNumber, Answer, refused, given, check}
-use Rattle.chna_entry.specs.Entries.{Entry, unused, used, entryIn, wholeEntry, entryGood}
+use Rattle.chna_entry.specs.Entries.{Used, Entry, unused, used, entryIn, wholeEntry, entryGood}
 use Rattle.chna.specs.declared.Chna.{Chna}
 use Rattle.chna.specs.declared.Reading.{Reading}
 use Rattle.chna.specs.declared.Reading.the-variants as reading
@@ -26,6 +27,12 @@ entriesIn s = entriesAt (length s / 40) s
 -- "then N entries of 40 bytes": entry i of a payload. One whose 40 bytes don't all lie in it isn't there, and so not used.
 unfoldable pub entryAt : ℕ → List ℕ → Entry
 entryAt i p = wholeEntry (field 40 (4 + i * 40) p)
+
+-- where a used entry i has its UID, track reference and pack reference in the payload
+pub record EntryStands (i : ℕ) (p : List ℕ) (u : Used) : Type 0 where
+  pub uid : field 12 (4 + i * 40 + 2) p ≡ u .uid
+  pub track : field 14 (4 + i * 40 + 14) p ≡ u .track
+  pub pack : field 11 (4 + i * 40 + 28) p ≡ u .pack
 
 unfoldable pub entriesGood : ℕ → List Entry → Bool
 unfolding pick

@@ -39,7 +39,7 @@ use Rattle.bext.specs.declared.Reading.the-variants as bext-reading
 use Rattle.bext.specs.Records.{Whole, bextIn, numbersOf, readAs as bextRead, bextNumber, bextValues}
 use Rattle.bext.specs.Slices.{partsIn}
 use Rattle.bext.proofs.RoundTrip.{reads-back as bext-reads-back, writes-back as bext-writes-back}
-use Rattle.bext.proofs.Held.{parts-are, accepted-long}
+use Rattle.bext.proofs.Held.{parts-are, accepted-long, stand}
 use Rattle.chna.specs.declared.Reading as chna
 use Rattle.chna.specs.declared.Reading.the-variants as chna-reading
 use Rattle.chna.proofs.RoundTrip.{bytes-read-back as chna-reads-back, read-then-written as chna-again-out}
@@ -67,7 +67,7 @@ use Rattle.words.proofs.Answered.{enough, too-few, good}
 use Rattle.words.proofs.Written.{refused-out, wrote-out, writes-given}
 use Rattle.records.specs.Reading.{ReadsFmt, ReadsBext, PartsOf, placesOf, partsValues, entryValues}
 use Rattle.records.specs.Writing.{formatOf, ofNine, WritesFmt, WritesBext, WritesChna}
-use Rattle.chna.proofs.Entries.{entry-of-record}
+use Rattle.chna.proofs.Entries.{entry-of-record, entry-stands}
 use Rattle.chna_entry.specs.Entries as chna-entry
 use Rattle.symphedra.specs.Exports.{Scans, Walks32, Upgrades, fileOf, WritesFile}
 use Rattle.symphedra.specs.Promises.{Numbered, Promise1, writtenIn, Promise2, WalkPromise, UpgradePromise, Promise3}
@@ -328,6 +328,8 @@ promise-2 =
       bext-back = bext-back;
       bext-words = bext-words;
       bext-parts = bext-parts;
+      parts-stand = stand;
+      entry-stands = entry-stands;
       chna-back = chna-back;
       chna-entries = λ channels tracks uids entries out w out' w' h i v r v' l k.
           let g = enough _ _ _ v r v' l k in

@@ -22,9 +22,9 @@ use Rattle.form.specs.declared.Form.{Form}
 use Rattle.form.specs.declared.Form.the-variants.{Riff}
 use Rattle.bext.specs.declared.Reading.the-variants as bext
 use Rattle.bext.specs.Records.{Whole, bextIn, bextValues, numbersOf}
-use Rattle.bext.specs.Slices.{partsIn}
-use Rattle.chna_entry.specs.Entries.{unused}
-use Rattle.chna.specs.Records.{Whole as Chna, entriesIn, chnaIn, wholeOf, padsZeroed}
+use Rattle.bext.specs.Slices.{partsIn, Stand}
+use Rattle.chna_entry.specs.Entries.{Used, unused, used}
+use Rattle.chna.specs.Records.{Whole as Chna, entryAt, EntryStands, entriesIn, chnaIn, wholeOf, padsZeroed}
 use Rattle.wave.specs.Scans.{Scan, scan}
 use Rattle.wave.specs.Grammar.{GoodFile}
 use Rattle.wave.specs.Tables.{ownField}
@@ -99,12 +99,16 @@ pub record Promise2 : Type 0 where
   pub bext-parts : (b : Whole) (out w out' w' : List ℕ) → WritesBext b out w 0 out' w'
       → (v : List ℕ) (r : ℕ) (v' : List ℕ) → 14 ≤ length v → PartsOf (writtenIn out' w') v r v'
       → (r ≡ 0) × (v' ≡ sets v 0 (placesOf b)) × (partsIn (writtenIn out' w') ≡ b)
+  -- and of any payload: the places that symphedra_bext_parts names are those of the parts
+  pub parts-stand : (p : List ℕ) → Stand p
   -- chna: the counts and the entries that were given
   pub chna-back : (channels tracks uids : ℕ) (entries out w out' w' : List ℕ) → WritesChna channels tracks uids entries out w 0 out' w'
       → chnaIn channels (writtenIn out' w') ≡ given (wholeOf tracks uids entries)
   pub chna-entries : (channels tracks uids : ℕ) (entries out w out' w' : List ℕ) → WritesChna channels tracks uids entries out w 0 out' w'
       → (i : ℕ) (v : List ℕ) (r : ℕ) (v' : List ℕ) → 5 ≤ length v → EntryOf i (writtenIn out' w') v r v'
       → (r ≡ 0) × (v' ≡ sets v 0 (entryValues (4 + i * 40) (getD (entriesIn entries) i unused)))
+  -- and of any payload: the places that symphedra_chna_entry names are those of UID, track and pack reference
+  pub entry-stands : (i : ℕ) (p : List ℕ) (u : Used) → entryAt i p ≡ used u → EntryStands i p u
   -- "records and audio": of a file of a form, a format record in nine words, the payloads b and c of bext and chna, and audio a.
   -- All of writer/specs/WayBack.antt: table, records, audio and sample count, the walk, and what an upgrade makes of it
   pub file-back : (form : Form) (f b c a out w out' w' : List ℕ) → Bytes c → length out < 256 ^ 8 → WritesFile form f b c a out w 0 out' w'
