@@ -44,7 +44,7 @@ use Rattle.chna.specs.declared.Reading as chna
 use Rattle.chna.specs.declared.Reading.the-variants as chna-reading
 use Rattle.chna.proofs.RoundTrip.{bytes-read-back as chna-reads-back, read-then-written as chna-again-out}
 use Rattle.chna.proofs.Pads.{zeroed-length}
-use Rattle.chna.specs.Records.{Whole as Chna, chnaIn, padsZeroed, readAs as chnaRead, chnaNumber, chnaValues, wholeOf}
+use Rattle.chna.specs.Records.{chnaIn, padsZeroed, readAs as chnaRead, chnaNumber, chnaValues, wholeOf}
 use Rattle.wave.specs.Scans.{Scan, scan, rowsOf, walk32}
 use Rattle.wave.specs.Grammar.{GoodFile, AcceptsExactly}
 use Rattle.wave.proofs.FirstHalf.{first-half}
