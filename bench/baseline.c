@@ -420,12 +420,12 @@ INLINE uint32_t stop(uint64_t next, uint64_t len)
     return next > len ? SYMPHEDRA_CUT_HEADER : SYMPHEDRA_TOO_MANY;
 }
 
+/* The fourth word is put ahead of this: it is 0 but for a size that ds64 gave. */
 INLINE uint64_t *put_row(uint64_t *row, uint64_t name, uint64_t at, uint64_t size)
 {
     row[0] = name;
     row[1] = at;
     row[2] = size;
-    row[3] = 0;
     return row + 4;
 }
 
@@ -492,15 +492,24 @@ static __attribute__((noinline)) const uint8_t *true_entry(const uint8_t *f, uin
     return NULL;
 }
 
-/* A chunk that fails the test; its true size is found out first. */
+/* Where a size came from: ds64's data size is 1, its first entry 2. */
+INLINE uint64_t source(const uint8_t *f, const uint8_t *entry)
+{
+    const uint8_t *first = f + 20 + RESERVE;
+    return entry < first ? 1 : 2 + (uint32_t)(entry - first) / DS64_ENTRY;
+}
+
+/* A chunk that fails the test; its true size is found out first. row: its row, or NULL. */
 INLINE uint32_t scan_at_the_end(const uint8_t *f, uint64_t len, struct walk *w, uint64_t name,
-                                uint64_t *size)
+                                uint64_t *size, uint64_t *row)
 {
     if (*size == ONES) {
         const uint8_t *entry = true_entry(f, name);
         if (!entry)
             return SYMPHEDRA_UNKNOWN_SIZE;
         *size = le64(entry + 4);
+        if (row)
+            row[3] = source(f, entry);
         if (*size > len)
             return SYMPHEDRA_PAST_END;
         /* next_place, in words that leave gcc the shorter code for the ordinary chunk */
@@ -560,8 +569,10 @@ INLINE uint32_t scan(const uint8_t *f, uint64_t len, uint64_t *rows, struct foun
     if (s->form != RIFF) {
         w.next = next_place(20, le32(f + 16));
         w.more--;
-        if (rows)
+        if (rows) {
+            rows[3] = 0;
             rows = put_row(rows, DS64, 20, le32(f + 16));
+        }
     }
     if (w.next > len)
         return w.next == len + 8 ? SYMPHEDRA_BAD_CHUNK_SET : SYMPHEDRA_CUT_HEADER;
@@ -570,8 +581,10 @@ INLINE uint32_t scan(const uint8_t *f, uint64_t len, uint64_t *rows, struct foun
         w.at = w.next;
         uint64_t header = le64(f + w.at - 8), name = header & ONES, size = header >> 32;
         w.next = next_place(w.at, size);
+        if (rows)
+            rows[3] = 0;
         if (w.next > w.near) {
-            refusal = scan_at_the_end(f, len, &w, name, &size);
+            refusal = scan_at_the_end(f, len, &w, name, &size, rows);
             if (refusal)
                 return name == DS64 ? SYMPHEDRA_BAD_DS64 : refusal;
         }
@@ -629,6 +642,7 @@ uint32_t symphedra_walk32(const uint8_t *file, size_t len, uint64_t *table, size
             if (refusal)
                 goto out;
         }
+        row[3] = 0;
         row = put_row(row, header & ONES, w.at, size);
     } while (--w.more);
     refusal = stop(w.next, len);

@@ -1,5 +1,6 @@
 /*
- * Scans a file and prints its chunks, one a line: name, place, size.
+ * Scans a file and prints its chunks, one a line: name, place, size, and where the size came from if
+ * it isn't the chunk's own field.
  *
  * cc scan.c $(pkg-config --cflags --libs symphedra) -o scan && ./scan take.wav
  */
@@ -52,7 +53,12 @@ int main(int argc, char **argv)
         const uint64_t *chunk = table + 1 + 4 * i;
         for (int byte = 0; byte < 4; byte++)
             putchar((int)(chunk[0] >> (8 * byte) & 255));
-        printf(" %llu %llu\n", (unsigned long long)chunk[1], (unsigned long long)chunk[2]);
+        printf(" %llu %llu", (unsigned long long)chunk[1], (unsigned long long)chunk[2]);
+        if (chunk[3] == SYMPHEDRA_SOURCE_DATA_SIZE)
+            printf(" ds64");
+        else if (chunk[3] != SYMPHEDRA_SOURCE_OWN)
+            printf(" entry %llu", (unsigned long long)(chunk[3] - SYMPHEDRA_SOURCE_ENTRY));
+        putchar('\n');
     }
     if (refusal)
         fprintf(stderr, "%s: refusal %u\n", argv[1], (unsigned)refusal);

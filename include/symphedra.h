@@ -45,6 +45,14 @@ extern "C" {
 #define SYMPHEDRA_ALREADY_64     18u /* upgrade: already a 64-bit form */
 #define SYMPHEDRA_NO_RESERVE     19u /* upgrade: first chunk isn't JUNK of 28 or more */
 
+/*
+ * Where a size came from, the fourth word of a table's row. A size field that isn't all ones is the
+ * true size, whatever ds64 says.
+ */
+#define SYMPHEDRA_SOURCE_OWN        0u /* the chunk's own size field */
+#define SYMPHEDRA_SOURCE_DATA_SIZE  1u /* the data size of ds64 */
+#define SYMPHEDRA_SOURCE_ENTRY      2u /* the first entry of ds64; entry p, from 0, is this + p */
+
 /* Words of each output. */
 #define SYMPHEDRA_CHUNK_LIMIT       64u  /* chunks of a table */
 #define SYMPHEDRA_TABLE_WORDS      257u  /* 1 + 4 x 64 */
@@ -58,15 +66,17 @@ extern "C" {
 /*
  * The table of a whole file. table: at least 257 words. On return table[0] is the number of chunks,
  * and chunk i has the four words at 1 + 4 i: its name (4 bytes as a little-endian number), payload
- * place, true size, and where the size came from (always 0 today).
+ * place, true size, and where the size came from: SYMPHEDRA_SOURCE_OWN, SYMPHEDRA_SOURCE_DATA_SIZE,
+ * or SYMPHEDRA_SOURCE_ENTRY + p for the ds64 entry at position p, the first one of the chunk's name.
  * A refused scan sets table[0] to 0 and no other word.
  * Returns 0, 15, or 1 to 12.
  */
 uint32_t symphedra_scan(const uint8_t *file, size_t len, uint64_t *table, size_t words);
 
 /*
- * The plain 32-bit walk, which knows nothing of ds64. The table is as for symphedra_scan and keeps
- * the chunks ahead of the stop; the returned number is the stop, or 0 where the walk met the end.
+ * The plain 32-bit walk, which knows nothing of ds64. The table is as for symphedra_scan, the fourth
+ * word of each row being SYMPHEDRA_SOURCE_OWN, and keeps the chunks ahead of the stop; the returned
+ * number is the stop, or 0 where the walk met the end.
  * Returns 0, 15, or 1, 2, 5 (nothing shown), 6, 7, 8, 9.
  */
 uint32_t symphedra_walk32(const uint8_t *file, size_t len, uint64_t *table, size_t words);

@@ -15,7 +15,7 @@
 //! write_file(Form::Riff, &fmt, b"", b"", &[1, 0, 255, 255], &mut file)?;
 //!
 //! for chunk in scan(&file)?.iter() {
-//!     println!("{} at {}, {} bytes", chunk.name, chunk.place, chunk.size);
+//!     println!("{} at {}, {} bytes ({})", chunk.name, chunk.place, chunk.size, chunk.source);
 //! }
 //!
 //! upgrade(&mut file, Target::Rf64)?;
@@ -36,7 +36,7 @@ pub use records::{
     read_bext, read_chna, read_fmt, write_bext, write_chna, write_fmt, Bext, Chna, ChnaEntry, Fmt,
 };
 pub use refusal::Refusal;
-pub use table::{Chunk, Form, Name, Table};
+pub use table::{Chunk, Form, Name, Source, Table};
 
 /// The table of a whole file.
 ///
@@ -58,7 +58,7 @@ pub struct Walk {
     pub stop: Option<Refusal>,
 }
 
-/// The plain 32-bit walk, which knows nothing of ds64.
+/// The plain 32-bit walk, which knows nothing of ds64: every size is from [`Source::Own`].
 ///
 /// ```
 /// let walk = symphedra::walk32(b"RIFF\x06\0\0\0WAVEab");

@@ -28,6 +28,57 @@ impl fmt::Display for Name {
     }
 }
 
+/// Where a chunk's size came from.
+///
+/// A size field that isn't all ones is the true size, whatever ds64 says. Shown as `own`, `ds64` or
+/// `entry N`.
+///
+/// ```
+/// use symphedra::{scan, upgrade, Source, Target};
+/// # let mut file = [0; 84];
+/// # let fmt = symphedra::Fmt::pcm(2, 48_000, 16).unwrap();
+/// # symphedra::write_file(symphedra::Form::Riff, &fmt, b"", b"", &[1, 0, 255, 255], &mut file).unwrap();
+///
+/// let source = |file: &[u8]| scan(file).unwrap().find(b"data").unwrap().source;
+/// assert_eq!(source(&file), Source::Own);
+/// upgrade(&mut file, Target::Rf64)?;
+/// assert_eq!(source(&file), Source::DataSize);
+/// let shown = [Source::Own, Source::DataSize, Source::Entry(3)].map(|source| source.to_string());
+/// assert_eq!(shown, ["own", "ds64", "entry 3"]);
+/// # Ok::<(), symphedra::Refusal>(())
+/// ```
+#[derive(Debug, Clone, Copy, PartialEq, Eq, Hash)]
+pub enum Source {
+    /// The chunk's own size field.
+    Own,
+    /// The data size of ds64, the field of `data` being all ones.
+    DataSize,
+    /// The ds64 entry at this position, from 0: the first one of the chunk's name, its field being all
+    /// ones.
+    Entry(u64),
+}
+
+impl Source {
+    /// The fourth word of a row.
+    fn of(word: u64) -> Self {
+        match word {
+            0 => Source::Own,
+            1 => Source::DataSize,
+            entry => Source::Entry(entry - 2),
+        }
+    }
+}
+
+impl fmt::Display for Source {
+    fn fmt(&self, f: &mut fmt::Formatter<'_>) -> fmt::Result {
+        match self {
+            Source::Own => f.pad("own"),
+            Source::DataSize => f.pad("ds64"),
+            Source::Entry(position) => f.pad(&format!("entry {position}")),
+        }
+    }
+}
+
 /// One row of a table.
 #[derive(Debug, Clone, Copy, PartialEq, Eq)]
 pub struct Chunk {
@@ -37,6 +88,8 @@ pub struct Chunk {
     pub place: u64,
     /// The payload's true size, without the pad.
     pub size: u64,
+    /// Where that size came from.
+    pub source: Source,
 }
 
 impl Chunk {
@@ -97,9 +150,10 @@ impl Table {
     pub fn iter(&self) -> impl Iterator<Item = Chunk> + '_ {
         let [_, rows @ ..] = &self.words;
         rows.chunks_exact(4).take(self.len()).filter_map(|row| match *row {
-            [name, place, size, _] => {
+            [name, place, size, source] => {
                 let [a, b, c, d, ..] = name.to_le_bytes();
-                Some(Chunk { name: Name([a, b, c, d]), place, size })
+                let name = Name([a, b, c, d]);
+                Some(Chunk { name, place, size, source: Source::of(source) })
             }
             _ => None,
         })

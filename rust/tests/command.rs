@@ -181,6 +181,20 @@ fn golden_records() {
     let chunks: [(&[u8; 4], &[u8]); 4] =
         [(b"fmt ", &FMT), (b"\x00\x1F\xE9\"", b""), (b"\\\x7Fa ", b""), (b"data", b"")];
     folder.put("names.wav", &file_of(b"RIFF", &chunks));
+
+    let head = ds64(0, 4, 0, &[(b"none", 1), (b"LIST", 6), (b"axml", 2), (b"LIST", 8)]);
+    let chunks: [(&[u8; 4], &[u8]); 5] = [
+        (b"ds64", &head),
+        (b"fmt ", &FMT),
+        (b"LIST", b"123456"),
+        (b"axml", b"<a>"),
+        (b"data", &[0; 4]),
+    ];
+    let mut sizes = file_of(b"RF64", &chunks);
+    for place in [128, 154] {
+        sizes[place - 4..place].copy_from_slice(&ONES); // LIST and data
+    }
+    folder.put("sizes.wav", &sizes);
     follow(&folder, include_str!("golden/records.transcript"));
 }
 
@@ -240,11 +254,14 @@ fn zeros_after_a_history_are_not_shown() {
 
 // ---- sparse files ----
 
+/// A chunk as JSON has it: name, place, size, and where that came from.
+type Row = (String, u64, u64, String);
+
 /// Lays out chunks with their true sizes; `None` for the bytes of a sparse one.
 struct Sparse {
     file: File,
     at: u64,
-    wanted: Vec<(String, u64, u64)>,
+    wanted: Vec<Row>,
 }
 
 impl Sparse {
@@ -260,8 +277,15 @@ impl Sparse {
         self.file.write_all_at(name, self.at).unwrap();
         self.file.write_all_at(&field.to_le_bytes(), self.at + 4).unwrap();
         self.file.write_all_at(payload, self.at + 8).unwrap();
-        self.wanted.push((String::from_utf8_lossy(name).into(), self.at + 8, size));
+        let name = String::from_utf8_lossy(name).into();
+        self.wanted.push((name, self.at + 8, size, "own".into()));
         self.at += 8 + size + size % 2;
+    }
+
+    /// A chunk whose own field is all ones, its size being from elsewhere.
+    fn chunk_from(&mut self, from: &str, name: &[u8; 4], size: u64, payload: &[u8]) {
+        self.chunk(name, u32::MAX, size, payload);
+        self.wanted.last_mut().unwrap().3 = from.into();
     }
 
     /// The length and the form field; in a 64-bit form also ds64's form size.
@@ -280,11 +304,13 @@ impl Sparse {
     }
 }
 
-fn chunks_of(line: &serde_json::Value) -> Vec<(String, u64, u64)> {
+fn chunks_of(line: &serde_json::Value) -> Vec<Row> {
     let text = |value: &serde_json::Value| value.as_str().unwrap().to_owned();
     let number = |value: &serde_json::Value| value.as_u64().unwrap();
-    let chunks = line["chunks"].as_array().unwrap().iter();
-    chunks.map(|c| (text(&c["name"]), number(&c["place"]), number(&c["size"]))).collect()
+    let row = |c: &serde_json::Value| {
+        (text(&c["name"]), number(&c["place"]), number(&c["size"]), text(&c["from"]))
+    };
+    line["chunks"].as_array().unwrap().iter().map(row).collect()
 }
 
 const MONO: [u8; 16] = [1, 0, 1, 0, 0x80, 0xBB, 0, 0, 0, 0x77, 1, 0, 2, 0, 16, 0];
@@ -321,6 +347,7 @@ fn long_riff(length: u64) {
 
         let mut wanted = sparse.wanted.clone();
         wanted[0].0 = "ds64".into();
+        wanted[2].3 = "ds64".into();
         let (status, lines) = folder.json(&["scan", "--json", &name]);
         assert_eq!((status, lines[0]["form"].as_str()), (0, Some(&*target.to_uppercase())));
         assert_eq!(chunks_of(&lines[0]), wanted);
@@ -365,8 +392,8 @@ fn long_data(form: &[u8; 4], data: u64) {
     sparse.chunk(b"ds64", head.len() as u32, head.len() as u64, &head);
     sparse.chunk(b"fmt ", 16, 16, &MONO);
     sparse.chunk(b"fact", 4, 4, &ONES);
-    sparse.chunk(b"data", u32::MAX, data, b"");
-    sparse.chunk(b"odd!", u32::MAX, 3, b"abc"); // the first entry of its name
+    sparse.chunk_from("ds64", b"data", data, b"");
+    sparse.chunk_from("entry 1", b"odd!", 3, b"abc"); // the first entry of its name
     sparse.chunk(b"last", 1, 1, b"x");
     let length = sparse.finish(u32::MAX);
 
@@ -429,7 +456,7 @@ fn sparse_all_ones_field_is_no_size() {
         sparse.chunk(b"ds64", head.len() as u32, head.len() as u64, &head);
         sparse.chunk(b"fmt ", 16, 16, &FMT);
         sparse.chunk(b"JUNK", 2, 2, b"in");
-        sparse.chunk(b"LIST", u32::MAX, long, b"");
+        sparse.chunk_from("entry 0", b"LIST", long, b"");
         sparse.chunk(b"JUNK", 3, 3, b"out");
         sparse.chunk(b"JUNK", 0, 0, b"");
         sparse.chunk(b"data", 8, 8, &[0; 8]);
@@ -451,13 +478,57 @@ fn sparse_entry_for_another_chunk_above_4_gib() {
     let long = 4 * GIB + 11;
     let head = ds64(0, 99, 0, &[(b"data", 1), (b"axml", long), (b"ds64", 7)]);
     sparse.chunk(b"ds64", head.len() as u32, head.len() as u64, &head);
-    sparse.chunk(b"axml", u32::MAX, long, b"<");
+    sparse.chunk_from("entry 1", b"axml", long, b"<");
     sparse.chunk(b"fmt ", 16, 16, &FMT);
     sparse.chunk(b"data", 8, 8, &[0; 8]); // its own field counts, not ds64's 99
     sparse.finish(u32::MAX);
     let (status, lines) = folder.json(&["scan", "--json", "take.wav"]);
     assert_eq!(status, 0);
     assert_eq!(chunks_of(&lines[0]), sparse.wanted);
+}
+
+/// Three chunks above 4 GiB, each with its size elsewhere.
+#[test]
+fn sparse_sizes_from_all_over() {
+    let folder = Folder::new();
+    let mut sparse = Sparse::create(&folder.path("take.wav"), b"RF64");
+    let (list, junk) = (4 * GIB + 6, 4 * GIB + 11);
+    // For no chunk, for each of two, for a name that stands before, and for data, where it has no effect.
+    let entries: [(&[u8; 4], u64); 5] =
+        [(b"none", 7), (b"LIST", list), (b"JUNK", junk), (b"LIST", 2), (b"data", 5)];
+    let head = ds64(0, 5 * GIB, 0, &entries);
+    sparse.chunk(b"ds64", head.len() as u32, head.len() as u64, &head);
+    sparse.chunk(b"fmt ", 16, 16, &MONO);
+    sparse.chunk_from("entry 2", b"JUNK", junk, b"");
+    sparse.chunk(b"JUNK", 3, 3, b"own");
+    sparse.chunk_from("ds64", b"data", 5 * GIB, b"");
+    sparse.chunk_from("entry 1", b"LIST", list, b"");
+    sparse.chunk(b"LIST", 2, 2, b"me");
+    sparse.finish(u32::MAX);
+    assert!(sparse.on_disk() < 1 << 20, "{} bytes on disk", sparse.on_disk());
+
+    let table = "\
+take.wav: RF64, 13,958,643,908 bytes, 7 chunks
+  name           place           size  from
+  ds64              20             88  own
+  fmt              116             16  own
+  JUNK             140  4,294,967,307  entry 2
+  JUNK   4,294,967,456              3  own
+  data   4,294,967,468  5,368,709,120  ds64
+  LIST   9,663,676,596  4,294,967,302  entry 1
+  LIST  13,958,643,906              2  own
+";
+    let ran = folder.run(&["scan", "take.wav"]);
+    assert_eq!((ran.status, ran.out.as_str(), ran.err.as_str()), (0, table, ""));
+    let (status, lines) = folder.json(&["scan", "--json", "take.wav"]);
+    assert_eq!(status, 0);
+    assert_eq!(chunks_of(&lines[0]), sparse.wanted);
+    // The walk has ds64 and fmt, by their own fields, and no column for that.
+    let (status, lines) = folder.json(&["walk", "--json", "take.wav"]);
+    assert_eq!((status, lines[0]["refusal"].as_u64()), (1, Some(7)));
+    assert_eq!(chunks_of(&lines[0]), sparse.wanted[..2]);
+    let shown = folder.run(&["walk", "take.wav"]).out;
+    assert!(shown.contains("\n  name  place  size\n  ds64     20    88\n"), "{shown}");
 }
 
 #[test]
@@ -768,6 +839,14 @@ fn bad_usage() {
         let ran = folder.run(arguments);
         assert_eq!((ran.status, ran.err.as_str()), (0, ""), "{arguments:?}");
         assert!(ran.out.contains("symphedra"), "{arguments:?}");
+    }
+}
+
+#[test]
+fn help_says_what_the_column_says() {
+    let help = Folder::new().run(&["help", "scan"]).out;
+    for word in ["\n  own  ", "\n  ds64  ", "\n  entry N  ", "\"from\""] {
+        assert!(help.contains(word), "{help}");
     }
 }
 

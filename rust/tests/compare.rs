@@ -1,6 +1,6 @@
 //! The library beside the second implementation, over a million generated files and as many records:
-//! every export, every word and byte of every output, with guard pages around all that is lent; and
-//! the crate's own records, read and written back.
+//! every export, every word and byte of every output, with guard pages around all that is lent; the
+//! tables of upgraded files beside the old ones; and the crate's own tables and records.
 //!
 //! SYMPHEDRA_FILES and SYMPHEDRA_SEED change how many and which.
 
@@ -10,11 +10,11 @@ mod reference;
 
 use generate::Rng;
 use guard::{Guarded, Side, Zeros};
-use reference::{BextFields, Chunk, FileParts, Form, Refused};
+use reference::{BextFields, Chunk, FileParts, Form, Mark, Refused, Scan};
 use std::fmt::{Debug, Display};
 use std::ops::AddAssign;
 use std::thread;
-use symphedra::{ffi, Bext, Chna, ChnaEntry};
+use symphedra::{ffi, Bext, Chna, ChnaEntry, Source};
 
 const EXPORTS: [(&str, &[u32]); 16] = [
     ("scan", &[0, 1, 2, 3, 4, 5, 6, 7, 8, 9, 10, 11, 12, 15]),
@@ -67,6 +67,81 @@ impl AddAssign for Tally {
     }
 }
 
+/// Rows of accepted 64-bit files by where their size came from, and by what could mislead there.
+const KINDS: [&str; 10] = [
+    "own",
+    "own_beside_entry",  // its own field, though an entry has its name
+    "own_data",          // data's own field, beside the data size of ds64
+    "data_size",         // the data size
+    "data_beside_entry", // the data size, though an entry is named data
+    "entry",             // an entry
+    "entry_repeated",    // an entry, another of its name behind it
+    "entry_past_unused", // an entry, ahead of it one that no row uses
+    "entry_of_sixteen",  // an entry of a full ds64
+    "entry_past_count",  // an entry, and behind the last the bytes of another one of its name
+];
+
+/// How often each kind of row was met, and the entry at each position.
+#[derive(Default)]
+struct Marks {
+    kinds: [u64; KINDS.len()],
+    positions: [u64; 16],
+    /// Upgraded files whose tables were compared with the old ones.
+    upgraded: u64,
+}
+
+impl Marks {
+    fn count(&mut self, file: &[u8], scan: &Scan) {
+        let used: Vec<Mark> = scan.chunks.iter().map(|chunk| chunk.mark).collect();
+        // The name behind the last entry, where ds64 has 12 bytes there.
+        let behind = 48 + 12 * scan.entries.len();
+        let ds64_end = scan.chunks[0].place + scan.chunks[0].size as usize;
+        let past = (behind + 12 <= ds64_end).then(|| reference::name_at(file, behind));
+        for chunk in &scan.chunks {
+            let named = |entry: &([u8; 4], u64)| entry.0 == chunk.name;
+            let beside = scan.entries.iter().any(named);
+            let data = chunk.name == *b"data";
+            let kinds = match chunk.mark {
+                Mark::OwnField => {
+                    vec![("own", true), ("own_beside_entry", beside && !data), ("own_data", data)]
+                }
+                Mark::DataSize => vec![("data_size", true), ("data_beside_entry", beside)],
+                Mark::Entry(position) => {
+                    self.positions[position] += 1;
+                    let unused = (0..position).any(|i| !used.contains(&Mark::Entry(i)));
+                    vec![
+                        ("entry", true),
+                        ("entry_repeated", scan.entries[position + 1..].iter().any(named)),
+                        ("entry_past_unused", unused),
+                        ("entry_of_sixteen", scan.entries.len() == 16),
+                        ("entry_past_count", past == Some(chunk.name)),
+                    ]
+                }
+            };
+            for (kind, _) in kinds.into_iter().filter(|(_, met)| *met) {
+                self.kinds[KINDS.iter().position(|name| *name == kind).unwrap()] += 1;
+            }
+        }
+    }
+
+    fn print(&self) {
+        for (kind, count) in KINDS.iter().zip(self.kinds) {
+            println!("{kind:18}{count:>8}");
+        }
+        print!("{:18}", "entry_at_0_to_15");
+        self.positions.iter().for_each(|count| print!("{count:>8}"));
+        println!("\n{:18}{:>8}", "upgraded", self.upgraded);
+    }
+}
+
+impl AddAssign for Marks {
+    fn add_assign(&mut self, other: Self) {
+        self.kinds.iter_mut().zip(other.kinds).for_each(|(count, more)| *count += more);
+        self.positions.iter_mut().zip(other.positions).for_each(|(count, more)| *count += more);
+        self.upgraded += other.upgraded;
+    }
+}
+
 /// What the outputs hold before a call.
 const OLD_WORD: u64 = 0xD1D1_D1D1_D1D1_D1D1;
 const OLD_BYTE: u8 = 0xD2;
@@ -81,6 +156,7 @@ struct Bench {
     out: Guarded,
     inputs: [Guarded; 8],
     tally: Tally,
+    marks: Marks,
 }
 
 const LARGEST_FILE: usize = 4 << 20;
@@ -121,6 +197,7 @@ impl Bench {
             out: Guarded::new(LARGEST_FILE),
             inputs: std::array::from_fn(|_| Guarded::new(LARGEST_FILE)),
             tally: Tally::default(),
+            marks: Marks::default(),
         }
     }
 
@@ -256,10 +333,18 @@ impl Bench {
                 Err(number) => (number, vec![0, 0]),
             },
         );
-        let wanted = reference::upgrade(&file, Form::Rf64);
-        self.upgrade("upgrade_rf64", &file, ffi::upgrade_rf64, wanted);
-        let wanted = reference::upgrade(&file, Form::Bw64);
-        self.upgrade("upgrade_bw64", &file, ffi::upgrade_bw64, wanted);
+        let rf64 = reference::upgrade(&file, Form::Rf64);
+        let bw64 = reference::upgrade(&file, Form::Bw64);
+        if let (Ok(scan), Ok(rf64), Ok(bw64)) = (&scan, &rf64, &bw64) {
+            let new = if self.rng.once_in(2) { rf64 } else { bw64 };
+            self.upgraded_table(&scan.chunks, new);
+        }
+        self.upgrade("upgrade_rf64", &file, ffi::upgrade_rf64, rf64);
+        self.upgrade("upgrade_bw64", &file, ffi::upgrade_bw64, bw64);
+        if let Some(scan) = scan.as_ref().ok().filter(|scan| scan.form != Form::Riff) {
+            self.table_by_the_crate(&file, &scan.chunks);
+            self.marks.count(&file, scan);
+        }
 
         // The records as the file holds them.
         for chunk in &shown {
@@ -274,6 +359,34 @@ impl Bench {
                 _ => {}
             }
         }
+    }
+
+    /// After an upgrade the table is the old one but for the first name and data's mark, and the walk
+    /// shows what stands ahead of data.
+    fn upgraded_table(&mut self, old: &[Chunk], new: &[u8]) {
+        let mut wanted = old.to_vec();
+        let data = wanted.iter().position(|chunk| chunk.name == *b"data").unwrap();
+        assert_eq!(wanted[data].mark, Mark::OwnField);
+        wanted[0].name = *b"ds64";
+        wanted[data].mark = Mark::DataSize;
+        self.words_out("scan", new, 257, ffi::scan, || (0, table(&wanted)));
+        self.words_out("walk32", new, 257, ffi::walk32, || (7, table(&wanted[..data])));
+        self.marks.upgraded += 1;
+    }
+
+    /// The crate's rows, each with where its size came from.
+    fn table_by_the_crate(&self, file: &[u8], chunks: &[Chunk]) {
+        let got = symphedra::scan(file).map(|table| {
+            let row = |c: symphedra::Chunk| (c.name.0, c.place as usize, c.size, c.source);
+            table.iter().map(row).collect::<Vec<_>>()
+        });
+        let source = |mark| match mark {
+            Mark::OwnField => Source::Own,
+            Mark::DataSize => Source::DataSize,
+            Mark::Entry(position) => Source::Entry(position as u64),
+        };
+        let row = |c: &Chunk| (c.name, c.place, c.size, source(c.mark));
+        check(self.seed, "the crate's table", file, got, Ok(chunks.iter().map(row).collect()));
     }
 
     fn read_fmt(&mut self, payload: &[u8]) {
@@ -617,7 +730,8 @@ fn file_writer(form: Form) -> (&'static str, FileWriter) {
 fn table(chunks: &[Chunk]) -> Vec<u64> {
     let mut words = vec![chunks.len() as u64];
     for chunk in chunks {
-        words.extend([u32::from_le_bytes(chunk.name).into(), chunk.place as u64, chunk.size, 0]);
+        let name = u32::from_le_bytes(chunk.name);
+        words.extend([name.into(), chunk.place as u64, chunk.size, chunk.mark.word()]);
     }
     words
 }
@@ -639,7 +753,7 @@ fn a_million_files_and_records() {
     let files = setting("SYMPHEDRA_FILES", 1_000_000);
     let seed = setting("SYMPHEDRA_SEED", 1);
     let threads = thread::available_parallelism().map_or(1, |n| n.get() as u64);
-    let mut tally = Tally::default();
+    let (mut tally, mut marks) = (Tally::default(), Marks::default());
     thread::scope(|scope| {
         let runs: Vec<_> = (0..threads)
             .map(|thread| {
@@ -656,18 +770,33 @@ fn a_million_files_and_records() {
                         bench.too_large();
                         bench.past_4_gib();
                     }
-                    bench.tally
+                    (bench.tally, bench.marks)
                 })
             })
             .collect();
-        runs.into_iter().for_each(|run| tally += run.join().expect("a thread without failure"));
+        for run in runs {
+            let (more_tally, more_marks) = run.join().expect("a thread without failure");
+            tally += more_tally;
+            marks += more_marks;
+        }
     });
     println!("{files} files, seed {seed}: how often each number was given");
     tally.print();
+    println!("where sizes came from, rows of accepted RF64 and BW64 files");
+    marks.print();
     for ((export, numbers), row) in EXPORTS.iter().zip(&tally.0) {
         for (number, count) in row.iter().enumerate() {
             let expected = numbers.contains(&(number as u32));
             assert_eq!(*count > 0, expected, "{export} and {number}: {count} times");
         }
     }
+    // The generator shall go on making each kind often: once in ten thousand files is little.
+    let often = files / 10_000;
+    for (kind, count) in KINDS.iter().zip(marks.kinds) {
+        assert!(count > often, "{kind}: {count} times");
+    }
+    for (position, count) in marks.positions.iter().enumerate() {
+        assert!(*count > often, "entry {position}: {count} times");
+    }
+    assert!(marks.upgraded > often, "upgraded: {} times", marks.upgraded);
 }

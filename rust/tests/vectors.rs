@@ -1,16 +1,16 @@
 //! The document's own cases, through the safe crate: the whole file of 84 bytes, the twelve cases at
-//! the edges, reserves, 64 and 65 chunks, and each edge of each record's rules. The parts of bext and
-//! the entries of chna are also looked at word by word.
+//! the edges, reserves, 64 and 65 chunks, where sizes came from, and each edge of each record's rules.
+//! Tables, the parts of bext and the entries of chna are also looked at word by word.
 
 use symphedra::{
     ffi, read_bext, read_chna, read_fmt, sample_count, scan, upgrade, walk32, write_bext,
-    write_chna, write_file, write_fmt, written_len, Bext, Chna, Fmt, Form, Refusal, Target,
+    write_chna, write_file, write_fmt, written_len, Bext, Chna, Fmt, Form, Refusal, Source, Target,
 };
 
-type Row = ([u8; 4], u64, u64);
+type Row = ([u8; 4], u64, u64, Source);
 
 fn rows(table: &symphedra::Table) -> Vec<Row> {
-    table.iter().map(|chunk| (chunk.name.0, chunk.place, chunk.size)).collect()
+    table.iter().map(|chunk| (chunk.name.0, chunk.place, chunk.size, chunk.source)).collect()
 }
 
 fn scanned(file: &[u8]) -> Result<Vec<Row>, Refusal> {
@@ -28,7 +28,11 @@ fn whole_file() -> Vec<u8> {
     file
 }
 
-const TABLE: [Row; 3] = [(*b"JUNK", 20, 28), (*b"fmt ", 56, 16), (*b"data", 80, 4)];
+const TABLE: [Row; 3] = [
+    (*b"JUNK", 20, 28, Source::Own),
+    (*b"fmt ", 56, 16, Source::Own),
+    (*b"data", 80, 4, Source::Own),
+];
 
 /// A RIFF file of these chunks.
 fn riff(chunks: &[(&[u8; 4], &[u8])]) -> Vec<u8> {
@@ -112,6 +116,7 @@ fn p8_upgraded_to_rf64() {
     assert_eq!(file, wanted);
     let mut table = TABLE;
     table[0].0 = *b"ds64";
+    table[2].3 = Source::DataSize;
     assert_eq!(scanned(&file), Ok(table.to_vec()));
     let walk = walk32(&file);
     assert_eq!(rows(&walk.table), table[..2]);
@@ -227,7 +232,7 @@ fn the_data_size_of_ds64_only_counts_for_all_ones() {
     file[28] = 200; // far past the end
     assert_eq!(scanned(&file), Err(Refusal::PastEnd));
     file[76..80].copy_from_slice(&[4, 0, 0, 0]);
-    assert_eq!(scanned(&file).unwrap()[2], (*b"data", 80, 4));
+    assert_eq!(scanned(&file).unwrap()[2], (*b"data", 80, 4, Source::Own));
 }
 
 /// An RF64 file whose ds64 has places for some entries and counts some of them; axml's size, 6, stands in one.
@@ -254,13 +259,214 @@ fn an_entry_behind_the_count_is_none() {
                 let scanned = scanned(&with_entries(places, count, at));
                 if at < count {
                     let place = u64::from(12 + 8 + 28 + 12 * places + 24 + 8);
-                    assert_eq!(scanned.unwrap()[2], (*b"axml", place, 6), "{places} {count} {at}");
+                    let row = (*b"axml", place, 6, Source::Entry(at.into()));
+                    assert_eq!(scanned.unwrap()[2], row, "{places} {count} {at}");
                 } else {
                     assert_eq!(scanned, Err(Refusal::UnknownSize), "{places} {count} {at}");
                 }
             }
         }
     }
+}
+
+// ---- where sizes came from ----
+
+type TableCall = fn(&[u8], &mut [u64]) -> u32;
+/// A row's name, and its other three words.
+type WordRow = ([u8; 4], [u64; 3]);
+
+/// The number given and the table's rows as they lie in its words, each name as the file has it. Words
+/// behind the last row stay.
+fn row_words(call: TableCall, file: &[u8]) -> (u32, Vec<WordRow>) {
+    let mut words = [7; 257];
+    let number = call(file, &mut words);
+    let (set, behind) = words[1..].split_at(4 * words[0] as usize);
+    assert!(behind.iter().all(|word| *word == 7));
+    let row = |row: &[u64]| ((row[0] as u32).to_le_bytes(), row[1..].try_into().unwrap());
+    (number, set.chunks(4).map(row).collect())
+}
+
+const ONES: u32 = u32::MAX;
+
+/// A 64-bit file. ds64: the data size, the entry count, the entries (and what looks like some behind
+/// them); then chunks by name, size field and payload, which has no odd length here.
+fn wide(
+    form: &[u8; 4],
+    data_size: u64,
+    count: u32,
+    entries: &[(&[u8; 4], u64)],
+    chunks: &[(&[u8; 4], u32, &[u8])],
+) -> Vec<u8> {
+    let mut file = form.to_vec();
+    file.extend([0xFF; 4]);
+    file.extend(b"WAVEds64");
+    file.extend((28 + 12 * entries.len() as u32).to_le_bytes());
+    file.extend([0; 8]);
+    file.extend(data_size.to_le_bytes());
+    file.extend([0; 8]);
+    file.extend(count.to_le_bytes());
+    for (name, size) in entries {
+        file.extend(*name);
+        file.extend(size.to_le_bytes());
+    }
+    for (name, field, payload) in chunks {
+        file.extend(*name);
+        file.extend(field.to_le_bytes());
+        file.extend(*payload);
+    }
+    let form_size = file.len() as u64 - 8;
+    file[20..28].copy_from_slice(&form_size.to_le_bytes());
+    file
+}
+
+#[test]
+fn sizes_from_own_fields() {
+    let table = vec![
+        (*b"JUNK", [20, 28, 0]),
+        (*b"fmt ", [56, 16, 0]),
+        (*b"data", [80, 4, 0]), // the only data size there is
+    ];
+    assert_eq!(row_words(ffi::scan, &whole_file()), (0, table.clone()));
+    assert_eq!(row_words(ffi::walk32, &whole_file()), (0, table));
+}
+
+#[test]
+fn an_upgrade_changes_where_the_data_size_comes_from() {
+    let chunks: [(&[u8; 4], &[u8]); 5] = [
+        (b"JUNK", &[0; 28]),
+        (b"fmt ", &FMT),
+        (b"axml", b"<>"),
+        (b"data", b"1234"),
+        (b"tail", b""),
+    ];
+    let riff = riff(&chunks);
+    let mut table = vec![
+        (*b"JUNK", [20, 28, 0]),
+        (*b"fmt ", [56, 16, 0]),
+        (*b"axml", [80, 2, 0]),
+        (*b"data", [90, 4, 0]),
+        (*b"tail", [102, 0, 0]),
+    ];
+    assert_eq!(row_words(ffi::scan, &riff), (0, table.clone()));
+    assert_eq!(row_words(ffi::walk32, &riff), (0, table.clone()));
+    table[0].0 = *b"ds64";
+    table[3].1[2] = 1; // for data alone
+    for target in [Target::Rf64, Target::Bw64] {
+        let mut file = riff.clone();
+        upgrade(&mut file, target).unwrap();
+        assert_eq!(row_words(ffi::scan, &file), (0, table.clone()));
+        assert_eq!(row_words(ffi::walk32, &file), (7, table[..3].to_vec()));
+    }
+}
+
+/// The file has every kind of source, and every kind of entry that is no source.
+#[test]
+fn sizes_from_all_over() {
+    let entries: [(&[u8; 4], u64); 8] = [
+        (b"none", 2),  // 0: for no chunk
+        (b"data", 2),  // 1: has no effect, data has its own place in ds64
+        (b"LIST", 6),  // 2: for the two LIST whose field is all ones
+        (b"axml", 4),  // 3: has no effect, axml's own field is 4 too
+        (b"fmt ", 16), // 4
+        (b"LIST", 6),  // 5: has no effect, entry 2 is the first
+        (b"ds64", 9),  // 6: has no effect, ds64's own field is never all ones
+        (b"cue ", 2),  // past the count
+    ];
+    let chunks: [(&[u8; 4], u32, &[u8]); 7] = [
+        (b"LIST", ONES, b"123456"),
+        (b"fmt ", ONES, &FMT),
+        (b"axml", 4, b"<a/>"),
+        (b"LIST", 2, b"12"),
+        (b"data", ONES, b"12345678"),
+        (b"LIST", ONES, b"654321"),
+        (b"cue ", 2, b"ab"),
+    ];
+    // ds64 has 28 + 8 x 12 = 124 bytes, so the next header stands at 144.
+    let table = vec![
+        (*b"ds64", [20, 124, 0]),
+        (*b"LIST", [152, 6, 4]),  // 2 + 2
+        (*b"fmt ", [166, 16, 6]), // 2 + 4
+        (*b"axml", [190, 4, 0]),
+        (*b"LIST", [202, 2, 0]),
+        (*b"data", [212, 8, 1]),
+        (*b"LIST", [228, 6, 4]),
+        (*b"cue ", [242, 2, 0]),
+    ];
+    for form in [b"RF64", b"BW64"] {
+        let file = wide(form, 8, 7, &entries, &chunks);
+        assert_eq!(file.len(), 244);
+        assert_eq!(row_words(ffi::scan, &file), (0, table.clone()));
+        // The walk stops at the first LIST and has ds64's own field.
+        assert_eq!(row_words(ffi::walk32, &file), (7, table[..1].to_vec()));
+        let sources: Vec<_> = scan(&file).unwrap().iter().map(|c| c.source.to_string()).collect();
+        assert_eq!(sources, ["own", "entry 2", "entry 4", "own", "own", "ds64", "entry 2", "own"]);
+    }
+    // Without its entry, or with it only past the count, an all-ones field has no size.
+    let mut unknown = chunks;
+    unknown[6].1 = ONES;
+    assert_eq!(row_words(ffi::scan, &wide(b"RF64", 8, 7, &entries, &unknown)), (7, vec![]));
+    let known = row_words(ffi::scan, &wide(b"RF64", 8, 8, &entries, &unknown));
+    assert_eq!((known.0, known.1[7]), (0, (*b"cue ", [242, 2, 9]))); // 2 + 7
+}
+
+#[test]
+fn the_first_entry_of_a_name_at_each_position() {
+    for first in 0..16 {
+        let mut entries: [(&[u8; 4], u64); 17] = [(b"none", 4); 17];
+        entries[first..].fill((b"axml", 4)); // the same size, so that only the mark tells
+        let chunks: [(&[u8; 4], u32, &[u8]); 3] =
+            [(b"fmt ", 16, &FMT), (b"axml", ONES, b"<a/>"), (b"data", 0, b"")];
+        // 16 entries, and the bytes of a 17th behind them: the next header stands at 20 + 28 + 17 x 12.
+        let (number, rows) = row_words(ffi::scan, &wide(b"BW64", 0, 16, &entries, &chunks));
+        let wanted = [
+            (*b"ds64", [20, 232, 0]),
+            (*b"fmt ", [260, 16, 0]),
+            (*b"axml", [284, 4, 2 + first as u64]),
+            (*b"data", [296, 0, 0]),
+        ];
+        assert_eq!((number, &rows[..]), (0, &wanted[..]), "entry {first}");
+    }
+}
+
+#[test]
+fn data_never_takes_an_entry() {
+    // ds64 has 28 + 2 x 12 = 52 bytes, so fmt's header stands at 72 and data's at 96.
+    let entries: [(&[u8; 4], u64); 2] = [(b"data", 4), (b"data", 8)];
+    let scan_data = |field: u32, data_size: u64| {
+        let chunks: [(&[u8; 4], u32, &[u8]); 2] = [(b"fmt ", 16, &FMT), (b"data", field, &[0; 4])];
+        let (number, rows) = row_words(ffi::scan, &wide(b"RF64", data_size, 2, &entries, &chunks));
+        (number, rows.last().map(|row| row.1))
+    };
+    assert_eq!(scan_data(ONES, 4), (0, Some([104, 4, 1])));
+    assert_eq!(scan_data(ONES, 8), (8, None));
+    assert_eq!(scan_data(4, 4), (0, Some([104, 4, 0]))); // the same size, and its own
+    assert_eq!(scan_data(4, 0), (0, Some([104, 4, 0])));
+}
+
+#[test]
+fn the_walk_says_own_where_ds64_could_say_more() {
+    // ds64 has 28 + 3 x 12 = 64 bytes, so fmt's header stands at 84 and data's at 108.
+    let entries: [(&[u8; 4], u64); 3] = [(b"ds64", 64), (b"fmt ", 16), (b"data", 4)];
+    let chunks: [(&[u8; 4], u32, &[u8]); 2] = [(b"fmt ", 16, &FMT), (b"data", 4, &[0; 4])];
+    let table = vec![(*b"ds64", [20, 64, 0]), (*b"fmt ", [92, 16, 0]), (*b"data", [116, 4, 0])];
+    let file = wide(b"RF64", 4, 3, &entries, &chunks);
+    assert_eq!(row_words(ffi::walk32, &file), (0, table.clone()));
+    assert_eq!(row_words(ffi::scan, &file), (0, table));
+}
+
+#[test]
+fn tables_that_differ_only_in_a_source_differ() {
+    let mut file = whole_file();
+    upgrade(&mut file, Target::Rf64).unwrap();
+    let from_ds64 = scan(&file).unwrap();
+    file[76..80].copy_from_slice(&[4, 0, 0, 0]);
+    let own = scan(&file).unwrap();
+    assert_ne!(own, from_ds64);
+    let plain = |table: &symphedra::Table| {
+        table.iter().map(|c| (c.name, c.place, c.size)).collect::<Vec<_>>()
+    };
+    assert_eq!(plain(&own), plain(&from_ds64));
+    assert_eq!(format!("{:>5}|{:<8}|", Source::DataSize, Source::Entry(15)), " ds64|entry 15|");
 }
 
 #[test]

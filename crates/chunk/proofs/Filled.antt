@@ -1,15 +1,17 @@
 -- Rows stored one after the other into words, and the number of rows last, make the table of them.
 -- Assumes nothing.
 use mathlib.Core.Path.{_≡_, refl, sym, ap, _∙_}
-use mathlib.Core.List.{List, [], _∷_, _++_}
-use Prim.Native.Nat.{ℕ, suc, _+_, _*_, _≤_}
+use mathlib.Core.List.{List, [], _∷_, _++_, List·Memᴰ, List·Memᴰ·head, List·Memᴰ·tail}
+use Prim.Native.Nat.{ℕ, zero, suc, _+_, _*_, _≤_, _<_}
 use native.Mathlib.Nat.{zero-add, add-zero}
 use native.Mathlib.Omega.{arith}
-use lib.ListN.{length, set, drop, length-set}
+use lib.ListN.{length, set, drop, getD, length-set}
 use lib.Seq.{sets, sets-eq, length-sets, getD-set-same, getD-set-other}
 use Rattle.le.proofs.Laws.{sets-append}
 use Rattle.chunk.specs.declared.Entry.{Entry}
+use Rattle.chunk.specs.Sources.{sourceNumber, sourceOf}
 use Rattle.chunk.specs.Tables.{rowWords, rowIn, allWords, tabled, setRow}
+use Rattle.chunk.proofs.Sources.{source-back}
 
 -- these rows stored from row i on, and then the number of all in word 0
 unfoldable pub filled : List ℕ → ℕ → List Entry → List ℕ
@@ -55,27 +57,97 @@ filled-tabled (x ∷ w) rows h =
     behind : (n : ℕ) → drop n w ≡ drop (1 + n) (x ∷ w)
     behind n = ap (λ (k : ℕ). drop k (x ∷ w)) (let p : suc n ≡ 1 + n = omega arith in p)
 
+-- ---- rows read back
+
+-- past a row stand the others
+row-later : (a b c d : ℕ) (l : List ℕ) (at : ℕ) → rowIn (at + 4) (a ∷ b ∷ c ∷ d ∷ l) ≡ rowIn at l
+unfolding rowIn
+row-later a b c d l at =
+    let e₀ : at + 4 ≡ suc (suc (suc (suc at))) = omega arith in
+    let e₁ : at + 4 + 1 ≡ suc (suc (suc (suc (at + 1)))) = omega arith in
+    let e₂ : at + 4 + 2 ≡ suc (suc (suc (suc (at + 2)))) = omega arith in
+    let e₃ : at + 4 + 3 ≡ suc (suc (suc (suc (at + 3)))) = omega arith in
+    λ i. record {
+      name = getD (a ∷ b ∷ c ∷ d ∷ l) (e₀ i) 0;
+      place = getD (a ∷ b ∷ c ∷ d ∷ l) (e₁ i) 0;
+      size = getD (a ∷ b ∷ c ∷ d ∷ l) (e₂ i) 0;
+      source = sourceOf (getD (a ∷ b ∷ c ∷ d ∷ l) (e₃ i) 0);
+    }
+
+-- the number of rows stands ahead of them
+row-first : (n : ℕ) (l : List ℕ) (at : ℕ) → rowIn (1 + at) (n ∷ l) ≡ rowIn at l
+unfolding rowIn
+row-first n l at =
+    let e₀ : 1 + at ≡ suc at = omega arith in
+    let e₁ : 1 + at + 1 ≡ suc (at + 1) = omega arith in
+    let e₂ : 1 + at + 2 ≡ suc (at + 2) = omega arith in
+    let e₃ : 1 + at + 3 ≡ suc (at + 3) = omega arith in
+    λ i. record {
+      name = getD (n ∷ l) (e₀ i) 0;
+      place = getD (n ∷ l) (e₁ i) 0;
+      size = getD (n ∷ l) (e₂ i) 0;
+      source = sourceOf (getD (n ∷ l) (e₃ i) 0);
+    }
+
+rows-row : (rows : List Entry) (more : List ℕ) (i : ℕ) → i < length rows
+    → (e : Entry) × List·Memᴰ e rows × (rowIn (4 * i) (allWords rows ++ more) ≡ e)
+unfolding allWords rowWords rowIn
+rows-row [] more i h = absurd (omega arith)
+rows-row (x ∷ xs) more zero h = (
+  x,
+  List·Memᴰ·head refl,
+  λ i. record { name = x .name; place = x .place; size = x .size; source = source-back (x .source) i },
+)
+rows-row (x ∷ xs) more (suc i) h =
+    let r = rows-row xs more i (omega arith) in
+    let e : 4 * suc i ≡ 4 * i + 4 = omega arith in (
+      r .0,
+      List·Memᴰ·tail (r .1),
+      ap (λ (k : ℕ). rowIn k (allWords (x ∷ xs) ++ more)) e
+          ∙ row-later (x .name) (x .place) (x .size) (sourceNumber (x .source)) (allWords xs ++ more) (4 * i)
+          ∙ r .2,
+    )
+
+-- the i-th row of a table is one of its rows
+pub table-row : (rows : List Entry) (w : List ℕ) (i : ℕ) → i < length rows
+    → (e : Entry) × List·Memᴰ e rows × (rowIn (1 + 4 * i) (tabled rows w) ≡ e)
+unfolding tabled
+table-row rows w i h =
+    let more : List ℕ = drop (1 + 4 * length rows) w in
+    let r = rows-row rows more i h in
+    (r .0, r .1, row-first (length rows) (allWords rows ++ more) (4 * i) ∙ r .2)
+
+-- and the number of rows is its first word
+pub table-count : (rows : List Entry) (w : List ℕ) → getD (tabled rows w) 0 0 ≡ length rows
+unfolding tabled
+table-count rows w = refl
+
 -- a row that was stored is read back
 pub row-back : (w : List ℕ) (at : ℕ) (e : Entry) → at + 4 ≤ length w → rowIn at (sets w at (rowWords e)) ≡ e
 unfolding rowIn rowWords
 row-back w at e h =
+    let from = sourceNumber (e .source) in
     let w1 = set w at (e .name) in
     let w2 = set w1 (suc at) (e .place) in
     let w3 = set w2 (suc (suc at)) (e .size) in
     let one : at + 1 ≡ suc at = omega arith in
     let two : at + 2 ≡ suc (suc at) = omega arith in
-    rw (one, two)
+    let three : at + 3 ≡ suc (suc (suc at)) = omega arith in
+    rw (one, two, three)
     (λ i. record {
       name =
-          (getD-set-other w3 (suc (suc (suc at))) at 0 0 (omega arith)
+          (getD-set-other w3 (suc (suc (suc at))) at from 0 (omega arith)
           ∙ getD-set-other w2 (suc (suc at)) at (e .size) 0 (omega arith)
           ∙ getD-set-other w1 (suc at) at (e .place) 0 (omega arith)
           ∙ getD-set-same w at (e .name) 0 (omega arith)) i;
       place =
-          (getD-set-other w3 (suc (suc (suc at))) (suc at) 0 0 (omega arith)
+          (getD-set-other w3 (suc (suc (suc at))) (suc at) from 0 (omega arith)
           ∙ getD-set-other w2 (suc (suc at)) (suc at) (e .size) 0 (omega arith)
           ∙ getD-set-same w1 (suc at) (e .place) 0 (simp length-set (omega arith))) i;
       size =
-          (getD-set-other w3 (suc (suc (suc at))) (suc (suc at)) 0 0 (omega arith)
+          (getD-set-other w3 (suc (suc (suc at))) (suc (suc at)) from 0 (omega arith)
           ∙ getD-set-same w2 (suc (suc at)) (e .size) 0 (simp length-set (omega arith))) i;
+      source =
+          (ap sourceOf (getD-set-same w3 (suc (suc (suc at))) from 0 (simp length-set (omega arith)))
+          ∙ source-back (e .source)) i;
     })

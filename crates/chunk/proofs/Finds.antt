@@ -4,7 +4,7 @@
 use mathlib.Core.Path.{_≡_, refl, sym, _∙_, ap}
 use mathlib.Core.Bool.{Bool, true, false}
 use mathlib.Core.Logic.{_⊎_, inl, inr}
-use mathlib.Core.List.{List, [], _∷_, List·Memᴰ, List·Memᴰ·head, List·Memᴰ·tail, List·Memᴰ·not-nil, List·Memᴰ·cases-cons, Memᴰ·cast}
+use mathlib.Core.List.{List, [], _∷_, map, List·Memᴰ, List·Memᴰ·head, List·Memᴰ·tail, List·Memᴰ·not-nil, List·Memᴰ·cases-cons, Memᴰ·cast}
 use Prim.Native.Nat.{ℕ, suc, _≤_}
 use native.Mathlib.Omega.{arith}
 use lib.Dec.{eqb}
@@ -53,6 +53,19 @@ counted name (x ∷ xs) e m h = go (λ (k : List·Memᴰ e xs). counted name xs 
     go below k (hit p c f) = omega arith
     go below (inl q) (miss p c f) = absurd (p (sym (ap (λ (y : Entry). y .name) q) ∙ h))
     go below (inr k) (miss p c f) = omega (arith, below k)
+
+-- rows that are now others of the same names, of which the empty entry stays, are counted and found as before
+pub finds-as : (g : Entry → Entry) → ((e : Entry) → g e .name ≡ e .name) → (name : ℕ) → g (find name []) ≡ find name [] → (rows : List Entry)
+    → (count name (map g rows) ≡ count name rows) × (find name (map g rows) ≡ g (find name rows))
+finds-as g same name none [] = (refl, sym none)
+finds-as g same name none (x ∷ xs) = go (finds-as g same name none xs) (first name x xs) (first name (g x) (map g xs))
+  where
+    go : (count name (map g xs) ≡ count name xs) × (find name (map g xs) ≡ g (find name xs)) → First name x xs → First name (g x) (map g xs)
+        → (count name (g x ∷ map g xs) ≡ count name (x ∷ xs)) × (find name (g x ∷ map g xs) ≡ g (find name (x ∷ xs)))
+    go b (hit p c f) (hit q d h) = (d ∙ ap suc (b .0) ∙ sym c, h ∙ ap g (sym f))
+    go b (hit p c f) (miss q d h) = absurd (q (same x ∙ p))
+    go b (miss p c f) (hit q d h) = absurd (p (sym (same x) ∙ q))
+    go b (miss p c f) (miss q d h) = (d ∙ b .0 ∙ sym c, h ∙ b .1 ∙ ap g (sym f))
 
 -- the only chunk of a name is the one found
 pub only : (name : ℕ) (rows : List Entry) (e : Entry) → count name rows ≤ 1 → List·Memᴰ e rows → e .name ≡ name → e ≡ find name rows

@@ -3,8 +3,9 @@
 -- by induction on rows that are laid.
 -- Assumes nothing.
 use mathlib.Core.Path.{_≡_, refl, sym, _∙_, ap, subst}
+use mathlib.Core.Bool.{Bool, true, false}
 use mathlib.Core.Logic.{_⊎_, inl, inr}
-use mathlib.Core.List.{List, [], _∷_, List·Memᴰ, List·Memᴰ·head, List·Memᴰ·tail, List·Memᴰ·not-nil, List·Memᴰ·cases-cons}
+use mathlib.Core.List.{List, [], _∷_, map, map-id, List·Memᴰ, List·Memᴰ·head, List·Memᴰ·tail, List·Memᴰ·not-nil, List·Memᴰ·cases-cons}
 use Prim.Native.Nat.{ℕ, zero, suc, _+_, _-_, _%_, _≤_}
 use native.Mathlib.Omega.{arith}
 use lib.ListN.{length}
@@ -12,19 +13,20 @@ use lib.Dec.{eqb, ltb, leb}
 use borrow.Author.Tests.{le-leb, leb-true, eq-eqb, ne-eqb, eqb-true, eqb-false, le-ltb}
 use Rattle.le.specs.Number.{number}
 use Rattle.chunk.specs.declared.Entry.{Entry}
+use Rattle.chunk.specs.declared.Source.{Source}
 use Rattle.chunk.specs.declared.TrueSize.{TrueSize}
 use Rattle.chunk.specs.declared.Refusal.{Refusal}
 use Rattle.chunk.specs.declared.Refusal.the-variants.{CutHeader, TooMany, UnknownSize, PastEnd}
 use Rattle.chunk.specs.declared.Verdict.{Verdict}
 use Rattle.chunk.specs.declared.Verdict.the-variants.{Accepted, Refused}
 use Rattle.chunk.specs.Refusals.{Answer, refused, given}
-use Rattle.chunk.proofs.Checks.{picked, pick-true, pick-false}
+use Rattle.chunk.proofs.Checks.{picked, given-inj, refused-given, pick-true, pick-false}
 use Rattle.chunk.specs.Fields.{ONES}
-use Rattle.chunk.specs.Walks.{Turn, Chunk, Stop, Rule, entryOf, past, placed, sized, step, stepAt, Walked, follow, walk, ownSize}
+use Rattle.chunk.specs.Walks.{Turn, Chunk, Stop, Rule, entryOf, past, placed, sized, step, stepAt, Walked, follow, walk, fieldSize, ownSize}
 
--- the true size that a row shows
+-- the true size that a row shows, and where it came from
 abbrev pub row-size : Entry → TrueSize
-row-size e = record { bytes = e .size }
+row-size e = record { bytes = e .size; source = e .source }
 
 -- a chunk whose header stands at an offset
 pub record Row (rule : Rule) (s : List ℕ) (at : ℕ) (e : Entry) : Type 0 where
@@ -109,7 +111,7 @@ step-row {rule} {s} {at} {e} room r =
     step-sized rule s room at (row-fits r)
     ∙ ap (λ (n : ℕ). sized (length s) at n (rule at n (number 4 (at + 4) s))) (r .named)
     ∙ ap (sized (length s) at (e .name)) (r .sized)
-    ∙ ap (λ (p : ℕ). placed (length s) (record { name = e .name; place = p; size = e .size })) (sym (r .place))
+    ∙ ap (λ (p : ℕ). placed (length s) (entryOf p (e .name) (row-size e))) (sym (r .place))
     ∙ pick-true (leb (past e) (length s)) _ _ (le-leb _ _ (r .ends))
 
 -- a header whose size the rule refuses stops the walk
@@ -216,23 +218,34 @@ laid-apart {e = e} {f = f} (next {e = x} {es = es} r l) m n =
     go below (inr k) (inl q) = after (rw q (laid-lies l k .after))
     go below (inr k) (inr j) = below k j
 
--- ---- the same rows in another file of the same length, perhaps by another rule
+-- ---- rows of the same places and sizes in another file of the same length, perhaps by another rule
 
 -- what has to hold of each row there
 pub record Shown (rule : Rule) (s : List ℕ) (e : Entry) : Type 0 where
   pub named : number 4 (e .place - 8) s ≡ e .name
   pub sized : rule (e .place - 8) (e .name) (number 4 (e .place - 4) s) ≡ given (row-size e)
 
+-- each row is now another, which has its place and size
+pub relaid-as : {rule : Rule} {s : List ℕ} {at : ℕ} {rows : List Entry} (g : Entry → Entry) (new : Rule) (u : List ℕ)
+    → ((e : Entry) → (g e .place ≡ e .place) × (g e .size ≡ e .size)) → length u ≡ length s
+    → ((e : Entry) → List·Memᴰ e rows → Shown new u (g e)) → Laid rule s at rows → Laid new u at (map g rows)
+unfolding past
+relaid-as g new u stay h shown (done e) = done (e ∙ sym h)
+relaid-as {at = at} g new u stay h shown (next {e = x} {es = xs} r l) =
+    let w = shown x (List·Memᴰ·head refl) in
+    let z = stay x in
+    let p : g x .place - 8 ≡ at = omega (arith, z .0, r .place) in
+    let q : g x .place - 4 ≡ at + 4 = omega (arith, z .0, r .place) in
+    let b : past x ≡ past (g x) = omega (arith, z .0, z .1) in
+    next
+    (record { place = z .0 ∙ r .place; named = rw p at (w .named); sized = rw (p, q) at (w .sized); ends = omega (arith, b, h, r .ends) })
+    (subst (λ (k : ℕ). Laid new u k (map g xs)) b (relaid-as g new u stay h (λ e m. shown e (List·Memᴰ·tail m)) l))
+
+-- the same rows
 pub relaid : {rule : Rule} {s : List ℕ} {at : ℕ} {rows : List Entry} (new : Rule) (u : List ℕ) → length u ≡ length s
     → ((e : Entry) → List·Memᴰ e rows → Shown new u e) → Laid rule s at rows → Laid new u at rows
-relaid new u h shown (done e) = done (e ∙ sym h)
-relaid {at = at} new u h shown (next {e = x} r l) =
-    let w = shown x (List·Memᴰ·head refl) in
-    let p : x .place - 8 ≡ at = omega (arith, r .place) in
-    let q : x .place - 4 ≡ at + 4 = omega (arith, r .place) in
-    next
-    (record { place = r .place; named = rw p at (w .named); sized = rw (p, q) at (w .sized); ends = rw h (r .ends) })
-    (relaid new u h (λ e m. shown e (List·Memᴰ·tail m)) l)
+relaid {at = at} {rows = rows} new u h shown l =
+    subst (Laid new u at) (map-id rows) (relaid-as (λ (e : Entry). e) new u (λ e. (refl, refl)) h shown l)
 
 -- ---- the rule of the 32-bit walk
 
@@ -240,6 +253,38 @@ pub own-ones : (at name own : ℕ) → own ≡ ONES → ownSize at name own ≡ 
 unfolding ownSize
 own-ones at name own h = pick-true _ _ _ (eq-eqb own ONES h)
 
-pub own-given : (at name own : ℕ) → (own ≡ ONES → ⊥) → ownSize at name own ≡ given (record { bytes = own })
+pub own-given : (at name own : ℕ) → (own ≡ ONES → ⊥) → ownSize at name own ≡ given (fieldSize own)
 unfolding ownSize
 own-given at name own h = pick-false _ _ _ (ne-eqb own ONES h)
+
+-- it gives no other size
+pub own-only : (at name own : ℕ) (t : TrueSize) → ownSize at name own ≡ given t → t ≡ fieldSize own
+own-only at name own t e = go (eqb own ONES) refl
+  where
+    go : (b : Bool) → eqb own ONES ≡ b → t ≡ fieldSize own
+    go true h = absurd (refused-given UnknownSize t (sym (own-ones at name own (eqb-true own ONES h)) ∙ e))
+    go false h = given-inj t _ (sym e ∙ own-given at name own (eqb-false own ONES h))
+
+-- ---- where the sizes that a walk shows came from
+
+-- what holds of the source of each size that a rule gives holds of each row's
+pub walk-sources : (rule : Rule) (P : Source → Type 0) → ((at name own : ℕ) (t : TrueSize) → rule at name own ≡ given t → P (t .source))
+    → (s : List ℕ) (room at : ℕ) (e : Entry) → List·Memᴰ e (walk rule s room at .rows) → P (e .source)
+unfolding walk follow
+walk-sources rule P f s zero at e m = go (step-found rule s zero at) m
+  where
+    go : {x : Turn} → Found rule s zero at x → List·Memᴰ e (follow x (λ to. record { rows = []; end = Refused TooMany }) .rows) → P (e .source)
+    go (ended h) k = absurd (List·Memᴰ·not-nil k)
+    go (chunk r row) k = absurd (omega arith)
+    go (refusal r) k = absurd (List·Memᴰ·not-nil k)
+walk-sources rule P f s (suc room) at e m = go (walk-sources rule P f s room) (step-found rule s (suc room) at) m
+  where
+    go : ((to : ℕ) (x : Entry) → List·Memᴰ x (walk rule s room to .rows) → P (x .source)) → {x : Turn} → Found rule s (suc room) at x
+        → List·Memᴰ e (follow x (λ to. walk rule s room to) .rows) → P (e .source)
+    go below (ended h) k = absurd (List·Memᴰ·not-nil k)
+    go below (chunk {e = x} r row) k = here (List·Memᴰ·cases-cons k)
+      where
+        here : (e ≡ x) ⊎ List·Memᴰ e (walk rule s room (past x) .rows) → P (e .source)
+        here (inl p) = subst (λ (y : Entry). P (y .source)) (sym p) (f at (x .name) (number 4 (at + 4) s) (row-size x) (row .sized))
+        here (inr j) = below (past x) e j
+    go below (refusal r) k = absurd (List·Memᴰ·not-nil k)

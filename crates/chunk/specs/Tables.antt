@@ -1,5 +1,5 @@
--- A table of chunks: "name, payload place and true size of each chunk, in file order". As words: the number of chunks,
--- then four words for each.
+-- A table of chunks: "name, payload place and true size of each chunk, in file order", and (document 02) where the size
+-- came from. As words: the number of chunks, then four words for each.
 use Prim.Native.Nat.{ℕ, suc, _+_, _*_}
 use mathlib.Core.List.{List, [], _∷_, _++_}
 use lib.ListN.{length, drop, replicate, getD}
@@ -7,7 +7,9 @@ use lib.Seq.{sets}
 use lib.Dec.{eqb}
 use Rattle.le.specs.Choice.{pick}
 use Rattle.chunk.specs.declared.Entry.{Entry}
+use Rattle.chunk.specs.declared.Source.the-variants.{Own}
 use Rattle.chunk.specs.declared.Table.{Table}
+use Rattle.chunk.specs.Sources.{sourceNumber, sourceOf}
 
 -- The most chunks of a file ("The limits of 64 chunks, .."), and the words of a full table: Table::LIMIT and Table::WORDS
 -- of the code.
@@ -17,9 +19,9 @@ LIMIT = 64
 abbrev pub WORDS : ℕ
 WORDS = 1 + 4 * LIMIT
 
--- the words of a chunk; the fourth is kept for where its size came from
+-- the words of a chunk
 unfoldable pub rowWords : Entry → List ℕ
-rowWords e = e .name ∷ e .place ∷ e .size ∷ 0 ∷ []
+rowWords e = e .name ∷ e .place ∷ e .size ∷ sourceNumber (e .source) ∷ []
 
 unfoldable pub allWords : List Entry → List ℕ
 allWords [] = []
@@ -35,7 +37,13 @@ tableOf rows = record { words = tabled rows (replicate WORDS 0) }
 
 -- the chunk in the row that starts at a word
 unfoldable pub rowIn : ℕ → List ℕ → Entry
-rowIn at w = record { name = getD w at 0; place = getD w (at + 1) 0; size = getD w (at + 2) 0 }
+rowIn at w =
+    record {
+      name = getD w at 0;
+      place = getD w (at + 1) 0;
+      size = getD w (at + 2) 0;
+      source = sourceOf (getD w (at + 3) 0);
+    }
 
 -- words with a chunk stored as row i
 unfoldable pub setRow : List ℕ → ℕ → Entry → List ℕ
@@ -50,5 +58,5 @@ count name (e ∷ es) = pick (eqb (e .name) name) (suc (count name es)) (count n
 -- the first chunk of a name, or an empty entry
 unfoldable pub find : ℕ → List Entry → Entry
 unfolding pick
-find name [] = record { name = 0; place = 0; size = 0 }
+find name [] = record { name = 0; place = 0; size = 0; source = Own }
 find name (e ∷ es) = pick (eqb (e .name) name) e (find name es)

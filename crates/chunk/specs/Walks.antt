@@ -7,6 +7,7 @@ use lib.Dec.{eqb, ltb, leb}
 use Rattle.le.specs.Number.{number}
 use Rattle.le.specs.Choice.{pick}
 use Rattle.chunk.specs.declared.Entry.{Entry}
+use Rattle.chunk.specs.declared.Source.the-variants.{Own}
 use Rattle.chunk.specs.declared.TrueSize.{TrueSize}
 use Rattle.chunk.specs.declared.Refusal.the-variants.{CutHeader, TooMany, UnknownSize, PastEnd}
 use Rattle.chunk.specs.declared.Verdict.{Verdict}
@@ -14,13 +15,14 @@ use Rattle.chunk.specs.declared.Verdict.the-variants.{Accepted, Refused}
 use Rattle.chunk.specs.Refusals.{Answer, refused, given}
 use Rattle.chunk.specs.Fields.{ONES}
 
--- A size rule: from a header's offset, its name and its own size field to the true size, or a refusal.
+-- A size rule: from a header's offset, its name and its own size field to the true size and where that came from, or a
+-- refusal.
 abbrev pub Rule : Type 0
 Rule = ℕ → ℕ → ℕ → Answer TrueSize
 
 -- the entry of a chunk whose payload, of a true size, starts at a place
 abbrev pub entryOf : ℕ → ℕ → TrueSize → Entry
-entryOf place name size = record { name = name; place = place; size = size .bytes }
+entryOf place name size = record { name = name; place = place; size = size .bytes; source = size .source }
 
 -- "Each step of the walk answers a chunk or a stop": a chunk, and where the next header is due; or how the walk ends
 pub data Turn : Type 0 where
@@ -70,7 +72,11 @@ unfoldable pub walk : (rule : Rule) (s : List ℕ) (room at : ℕ) → Walked
 walk rule s zero at = follow (stepAt rule s zero at) (λ next. record { rows = []; end = Refused TooMany })
 walk rule s (suc room) at = follow (stepAt rule s (suc room) at) (λ next. walk rule s room next)
 
+-- the size that a chunk's own field says
+abbrev pub fieldSize : ℕ → TrueSize
+fieldSize own = record { bytes = own; source = Own }
+
 -- "in the walk every all-ones chunk size is 7"; any other field is the size
 unfoldable pub ownSize : Rule
 unfolding pick
-ownSize at name own = pick (eqb own ONES) (refused UnknownSize) (given (record { bytes = own }))
+ownSize at name own = pick (eqb own ONES) (refused UnknownSize) (given (fieldSize own))

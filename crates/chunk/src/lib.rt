@@ -4,12 +4,14 @@
 pub mod steps;
 
 ghost use mathlib.Core.Path.{_≡_};
-ghost use Prim.Native.Nat.{_+_, _≤_};
+ghost use Prim.Native.Nat.{_+_, _^_, _≤_, _<_};
 ghost use mathlib.Core.List.{[]};
-ghost use lib.ListN.{length};
+ghost use lib.ListN.{length, getD};
 ghost use lib.Seq.{sets};
 ghost use Rattle.chunk.specs.Refusals.{refusalNumber, verdictNumber};
+ghost use Rattle.chunk.specs.Sources.{sourceNumber, sourceOf};
 ghost use Rattle.chunk.specs.Tables.{tableOf, rowWords, rowIn};
+ghost use Rattle.chunk.specs.Walks.{fieldSize};
 
 // Why a file or a record is refused: document 01's table, in its order.
 pub enum Refusal {
@@ -100,20 +102,57 @@ impl Verdict {
     }
 }
 
-// A chunk of a file: its 4-byte name as a number, where its payload starts, and its true size.
+// Where a chunk's true size came from.
+pub enum Source {
+    // The chunk's own size field.
+    Own,
+    // The data size of ds64.
+    DataSize,
+    // The entry of ds64 at this position, counted from 0.
+    EntryAt(u32),
+}
+
+impl Source {
+    // 0, 1, or 2 and the position.
+    pub fn number(self) -> u64
+        ensures { λ r. ⌜ r ≡ sourceNumber self ⌝ }
+    {
+        match self {
+            Source::Own => 0,
+            Source::DataSize => 1,
+            Source::EntryAt(position) => 2 + position as u64,
+        }
+    }
+}
+
+// A chunk's true size, and where it came from.
+pub struct TrueSize {
+    pub bytes: u64,
+    pub source: Source,
+}
+
+impl TrueSize {
+    // The size that a chunk's own field says.
+    pub fn own(field: u64) -> TrueSize
+        ensures { λ r. ⌜ r ≡ fieldSize field ⌝ }
+    {
+        TrueSize {
+            bytes: field,
+            source: Source::Own,
+        }
+    }
+}
+
+// A chunk of a file: its 4-byte name as a number, where its payload starts, its true size, and where that came from.
 pub struct Entry {
     pub name: u64,
     pub place: u64,
     pub size: u64,
-}
-
-// A chunk's true size.
-pub struct TrueSize {
-    pub bytes: u64,
+    pub source: Source,
 }
 
 // The chunks of a file, in file order, as words: word 0 is their number, and chunk i has the four words from 1 + 4 i:
-// name, place, size, and a zero.
+// name, place, size, and the number of the size's source.
 pub struct Table {
     pub words: [u64; Table::WORDS],
 }
@@ -142,18 +181,34 @@ pub fn put_row(words: &mut [u64], at: usize, e: Entry)
     words[at] = e.name;
     words[at + 1] = e.place;
     words[at + 2] = e.size;
-    words[at + 3] = 0;
+    let source = e.source;
+    words[at + 3] = source.number();
+}
+
+// The source that a number tells.
+fn source_of(number: u64) -> Source
+    requires { ⌜ number < 2 ^ 32 ⌝ }
+    ensures { λ r. ⌜ r ≡ sourceOf number ⌝ }
+{
+    if number == 0 {
+        return Source::Own;
+    }
+    if number == 1 {
+        return Source::DataSize;
+    }
+    Source::EntryAt((number - 2) as u32)
 }
 
 // The entry in the row that starts at a word.
 pub fn row(words: &[u64], at: usize) -> Entry
-    requires { ⌜ at + 4 ≤ length (now words) ⌝ }
+    requires { ⌜ (at + 4 ≤ length (now words)) × (getD (now words) (at + 3) 0 < 2 ^ 32) ⌝ }
     ensures { λ r. ⌜ r ≡ rowIn at (now (words .entry)) ⌝ }
 {
     Entry {
         name: words[at],
         place: words[at + 1],
         size: words[at + 2],
+        source: source_of(words[at + 3]),
     }
 }
 

@@ -29,10 +29,12 @@ pub fn header(file: &[u8], place: u64) -> Header
 pub fn entry(place: u64, name: u64, size: TrueSize) -> Entry
     ensures { λ r. ⌜ r ≡ entryOf place name size ⌝ }
 {
+    let source = size.source;
     Entry {
         name,
         place,
         size: size.bytes,
+        source,
     }
 }
 
@@ -79,6 +81,6 @@ pub fn step32(file: &[u8], place: u64) -> Step
     if h.field == super::ONES {
         return Step::Stop(Refusal::UnknownSize);
     }
-    let size = TrueSize { bytes: h.field };
+    let size = TrueSize::own(h.field);
     found(file.len() as u64, place, h.name, size)
 }

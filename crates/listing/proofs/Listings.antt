@@ -19,7 +19,7 @@ use Rattle.chunk.specs.declared.Verdict.the-variants.{Accepted, Refused}
 use Rattle.chunk.specs.Refusals.{Answer, refused, given, check}
 use Rattle.chunk.specs.Names.{DS64}
 use Rattle.chunk.specs.Tables.{count, LIMIT}
-use Rattle.chunk.specs.Walks.{Walked, past, walk}
+use Rattle.chunk.specs.Walks.{Walked, entryOf, fieldSize, past, walk}
 use Rattle.chunk.specs.Contracts.{headerOf}
 use Rattle.chunk.proofs.Checks.{picked, pick-true, pick-false, check-true, check-false, andThen-at, andThen-refused}
 use Rattle.chunk.proofs.Turns.{step-cut}
@@ -64,7 +64,7 @@ beside-riff s o p q =
 
 -- ds64's row
 ds64Row : List ℕ → Entry
-ds64Row s = record { name = DS64; place = 20; size = number 4 16 s }
+ds64Row s = entryOf 20 DS64 (fieldSize (number 4 16 s))
 
 rules-at : (s : List ℕ) (h : Head) → headOf s ≡ given h → isWide (h .form) ≡ true
     → Ds64Rules (length s) (number 4 12 s) (number 4 16 s) (number 4 44 s)

@@ -26,7 +26,7 @@ use Rattle.chunk.specs.Refusals.{Answer, refused, given}
 use Rattle.chunk.specs.Names.{FMT, DATA, FACT, BEXT, CHNA, DS64}
 use Rattle.chunk.specs.Fields.{ONES}
 use Rattle.chunk.specs.Tables.{LIMIT}
-use Rattle.chunk.specs.Walks.{Rule, Walked, walk, entryOf, past}
+use Rattle.chunk.specs.Walks.{Rule, Walked, walk, entryOf, fieldSize, past}
 use Rattle.chunk.specs.Contracts.{endsAt, placedIn, foundAs, stepOn, walkAfter, full}
 use Rattle.chunk.proofs.Checks.{pick-true, pick-false, true-false, rule-and, picked}
 use Rattle.chunk.proofs.Turns.{placed-whole, turn, turn-due, walk-full}
@@ -348,7 +348,7 @@ module _ (h : Head) (s : List ℕ) (b : Bytes s) where
 
   module _ (near place : ℕ) (d : Nears s near place) (p : Passes near place s) where
     entry : Entry
-    entry = entryOf place (number 4 (place - 8) s) (record { bytes = number 4 (place - 4) s })
+    entry = entryOf place (number 4 (place - 8) s) (fieldSize (number 4 (place - 4) s))
 
     unnamed : (name : ℕ) → 98 ≤ name % 256 → name % 256 ≤ 102 → number 4 (place - 8) s ≡ name → ⊥
     unnamed = starts (place - 8) (omega (arith, d .due .start, d .due .whole)) (p .letter)

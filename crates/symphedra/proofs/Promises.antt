@@ -4,7 +4,7 @@
 use mathlib.Core.Path.{_≡_, refl, sym, _∙_, ap, subst}
 use mathlib.Core.Logic.{_↔_, inl, inr}
 use mathlib.Core.Bool.{Bool, true, false}
-use mathlib.Core.List.{List, [], _∷_}
+use mathlib.Core.List.{List, [], _∷_, List·Memᴰ}
 use Prim.Native.Nat.{ℕ, _≤_, _<_, _*_, _^_, _+_}
 use native.Mathlib.Omega.{arith}
 use lib.ListN.{length, take, getD, length-take, replicate}
@@ -14,17 +14,23 @@ use borrow.Author.Tests.{le-leb, eqb-true}
 use Rattle.le.specs.Number.{Bytes}
 use Rattle.le.specs.Choice.{pick}
 use Rattle.chunk.specs.declared.Entry.{Entry}
+use Rattle.chunk.specs.declared.Source.{Source}
+use Rattle.chunk.specs.declared.Source.the-variants.{Own, DataSize, EntryAt}
 use Rattle.chunk.specs.declared.Refusal.the-variants.{BadRecord, ShortOutput}
 use Rattle.chunk.specs.declared.Verdict.{Verdict}
 use Rattle.chunk.specs.declared.Verdict.the-variants.{Accepted, Refused}
 use Rattle.chunk.specs.Refusals.{verdictNumber, verdictOf, Answer, refused, given}
 use Rattle.chunk.specs.Names.{DATA}
-use Rattle.chunk.specs.Tables.{allWords, tabled, WORDS}
+use Rattle.chunk.specs.Fields.{ONES}
+use Rattle.chunk.specs.Sources.{sourceNumber, sourceOf}
+use Rattle.chunk.specs.Tables.{allWords, tabled, rowIn, WORDS}
 use Rattle.chunk.specs.Walks.{Walked}
 use Rattle.chunk.specs.declared.Written.{Written}
 use Rattle.chunk.specs.declared.Written.the-variants as written
 use Rattle.chunk.specs.Writes.{writtenOf, writtenNumber}
 use Rattle.chunk.proofs.Checks.{given-inj, pick-true, check-given, check-true}
+use Rattle.chunk.proofs.Sources.{source-back, number-back}
+use Rattle.chunk.proofs.Filled.{table-row, table-count}
 use Rattle.chunk.proofs.Outputs.{puts-front}
 use Rattle.form.specs.declared.Form.{Form}
 use Rattle.form.specs.declared.Form.the-variants.{Riff}
@@ -45,9 +51,14 @@ use Rattle.chna.specs.declared.Reading.the-variants as chna-reading
 use Rattle.chna.proofs.RoundTrip.{bytes-read-back as chna-reads-back, read-then-written as chna-again-out}
 use Rattle.chna.proofs.Pads.{zeroed-length}
 use Rattle.chna.specs.Records.{chnaIn, padsZeroed, readAs as chnaRead, chnaNumber, chnaValues, wholeOf}
+use Rattle.truesize.specs.Sizes.{Ds64Entry, entriesOf}
+use Rattle.truesize.specs.Told.{FirstEntry}
 use Rattle.wave.specs.Scans.{Scan, scan, rowsOf, walk32}
+use Rattle.wave.specs.Tables.{ownField}
+use Rattle.wave.specs.Demand3.{SaysOwn}
 use Rattle.wave.specs.Grammar.{GoodFile, AcceptsExactly}
-use Rattle.wave.proofs.FirstHalf.{first-half}
+use Rattle.wave.proofs.Tables.{tables}
+use Rattle.wave.proofs.FirstHalf.{says-own, first-half}
 use Rattle.wave.proofs.AcceptsExactly.{accepts-exactly}
 use Rattle.samples.specs.declared.Samples.{Samples}
 use Rattle.samples.specs.declared.Samples.the-variants as samples
@@ -70,7 +81,7 @@ use Rattle.records.specs.Writing.{formatOf, ofNine, WritesFmt, WritesBext, Writ
 use Rattle.chna.proofs.Entries.{entry-of-record, entry-stands}
 use Rattle.chna_entry.specs.Entries as chna-entry
 use Rattle.symphedra.specs.Exports.{Scans, Walks32, Upgrades, fileOf, WritesFile}
-use Rattle.symphedra.specs.Promises.{Numbered, Promise1, writtenIn, Promise2, WalkPromise, UpgradePromise, Promise3}
+use Rattle.symphedra.specs.Promises.{Numbered, Promise1, writtenIn, FourthWord, Promise2, WalkPromise, UpgradePromise, Promise3}
 
 -- ---- demand 1
 
@@ -314,6 +325,55 @@ module _ (form : Form) (f b c a out w out' w' : List ℕ) (bytes : Bytes c) (sma
       let g = scan-is _ v r v' (file-back .scanned) (file-back .accepted) l k in
       (g .0, g .1 ∙ ap (λ (x : List Entry). tabled x v) (file-back .rows))
 
+-- ---- where the sizes came from
+
+-- the fourth word of a row is the number of its source
+fourth : (at : ℕ) (w : List ℕ) → getD w (at + 3) 0 ≡ sourceNumber (rowIn at w .source)
+unfolding rowIn
+fourth at w = sym (number-back (getD w (at + 3) 0))
+
+fourth-word : (s : List ℕ) (ks : List Ds64Entry) (e : Entry) (k : ℕ) → k ≡ sourceNumber (e .source)
+    → (e .source ≡ Own) ↔ (ownField s e ≡ ONES → ⊥) → (e .source ≡ DataSize) ↔ ((e .name ≡ DATA) × (ownField s e ≡ ONES))
+    → ((p : ℕ) → e .source ≡ EntryAt p → FirstEntry (e .name) p (e .size) ks) → FourthWord s ks e k
+fourth-word s ks e k n own audio entry =
+    record {
+      own = ((λ z. own .0 (told Own z)), λ o. n ∙ ap sourceNumber (own .1 o));
+      audio = ((λ z. audio .0 (told DataSize z)), λ o. n ∙ ap sourceNumber (audio .1 o));
+      entry = λ p z. entry p (told (EntryAt p) z);
+    }
+  where
+    told : (x : Source) → k ≡ sourceNumber x → e .source ≡ x
+    told x z = sym (source-back (e .source)) ∙ ap sourceOf (sym n ∙ z) ∙ source-back x
+
+sources : (s w w' : List ℕ) (a : Scan) → Scans s w 0 w' → scan s ≡ given a → (i : ℕ) → i < getD w' 0 0
+    → FourthWord s (entriesOf (a .head) s) (rowIn (1 + 4 * i) w') (getD w' (1 + 4 * i + 3) 0)
+sources s w w' a h e i l =
+    let x = scanned s w w' h in
+    let same : x .by ≡ a = given-inj _ _ (sym (x .is) ∙ e) in
+    let is : w' ≡ tabled (a .rows) w = x .table ∙ ap (λ (y : Scan). tabled (y .rows) w) same in
+    let few : i < length (a .rows) = omega (arith, l, ap (λ (v : List ℕ). getD v 0 0) is, table-count (a .rows) w) in
+    let r = table-row (a .rows) w i few in
+    let row : rowIn (1 + 4 * i) w' ≡ r .0 = ap (rowIn (1 + 4 * i)) is ∙ r .2 in
+    let t = tables s a e in
+    subst (λ (y : Entry). FourthWord s (entriesOf (a .head) s) y (getD w' (1 + 4 * i + 3) 0)) (sym row)
+    (fourth-word s (entriesOf (a .head) s) (r .0) _ (fourth (1 + 4 * i) w' ∙ ap (λ (y : Entry). sourceNumber (y .source)) row)
+    (t .ownMark (r .0) (r .1)) (t .dataMark (r .0) (r .1)) (t .entryMark (r .0) (r .1)))
+
+-- rows that say own field have 0 there
+own-words : (rows : List Entry) (w w' : List ℕ) → w' ≡ tabled rows w → ((e : Entry) → List·Memᴰ e rows → e .source ≡ Own)
+    → (i : ℕ) → i < getD w' 0 0 → getD w' (1 + 4 * i + 3) 0 ≡ 0
+own-words rows w w' is own i k =
+    let few : i < length rows = omega (arith, k, ap (λ (v : List ℕ). getD v 0 0) is, table-count rows w) in
+    let x = table-row rows w i few in
+    fourth (1 + 4 * i) w'
+    ∙ ap (λ (y : Entry). sourceNumber (y .source)) (ap (rowIn (1 + 4 * i)) is ∙ x .2)
+    ∙ ap sourceNumber (own (x .0) (x .1))
+
+walk-own : (s v : List ℕ) (r : ℕ) (v' : List ℕ) → WORDS ≤ length v → Walks32 s v r v' → (i : ℕ) → i < getD v' 0 0
+    → getD v' (1 + 4 * i + 3) 0 ≡ 0
+unfolding SaysOwn
+walk-own s v r v' l h = own-words (walk32 s .rows) v v' (enough _ _ _ v r v' l h .1) (says-own s)
+
 pub promise-2 : Promise2
 unfolding writtenIn AcceptsExactly wholeOf
 promise-2 =
@@ -336,6 +396,7 @@ promise-2 =
           let e = entry-of-record channels _ _ (chna-back channels tracks uids entries out w out' w' h) i in
           (g .0, g .1 ∙ ap (λ (x : chna-entry.Entry). sets v 0 (entryValues (4 + i * 40) x)) e);
       file-back = file-back;
+      sources = sources;
       file-table = file-table;
       fmt-again = λ p v v' out w r out' w' b h. fmt-again p v v' h out w r out' w' b;
       bext-again = λ p out w b r out' w' bs e room word t.
@@ -395,6 +456,7 @@ module _ (t : Target) (s w w' : List ℕ) (a : Scan) (r : ℕ) (u : List ℕ) (b
         table = table;
         succeeds = succeeds;
         otherwise = otherwise;
+        before = own-words (a .rows) w w' table (half .before);
         after = done;
         scan-after = λ z v q v' l k.
             let d = done z in
@@ -414,6 +476,7 @@ module _ (t : Target) (s w w' : List ℕ) (a : Scan) (r : ℕ) (u : List ℕ) (b
 pub promise-3 : Promise3
 promise-3 =
     record {
+      own = walk-own;
       first = first;
       second = λ t s w w' a r u b k e riff h.
           let x = scanned s w w' k in

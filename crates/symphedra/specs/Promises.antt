@@ -8,7 +8,7 @@
 use Prim.Native.Nat.{ℕ, _+_, _≤_, _<_, _^_, _*_}
 use mathlib.Core.Path.{_≡_}
 use mathlib.Core.Logic.{_↔_, _⊎_}
-use mathlib.Core.List.{List, [], _∷_, _++_}
+use mathlib.Core.List.{List, [], _∷_, _++_, map}
 use lib.ListN.{length, take, drop, getD, replicate}
 use lib.Seq.{sets}
 use Rattle.le.specs.Number.{Bytes}
@@ -17,7 +17,7 @@ use Rattle.chunk.specs.declared.Refusal.{Refusal}
 use Rattle.chunk.specs.Refusals.{refusalNumber, Answer, given}
 use Rattle.chunk.specs.Names.{DATA}
 use Rattle.chunk.specs.Fields.{ONES}
-use Rattle.chunk.specs.Tables.{tabled, WORDS}
+use Rattle.chunk.specs.Tables.{tabled, rowIn, WORDS}
 use Rattle.form.specs.declared.Form.{Form}
 use Rattle.form.specs.declared.Form.the-variants.{Riff}
 use Rattle.bext.specs.declared.Reading.the-variants as bext
@@ -25,12 +25,14 @@ use Rattle.bext.specs.Records.{Whole, bextIn, bextValues, numbersOf}
 use Rattle.bext.specs.Slices.{partsIn, Stand}
 use Rattle.chna_entry.specs.Entries.{Used, unused, used}
 use Rattle.chna.specs.Records.{Whole as Chna, entryAt, EntryStands, entriesIn, chnaIn, wholeOf, padsZeroed}
+use Rattle.truesize.specs.Sizes.{Ds64Entry, entriesOf}
+use Rattle.truesize.specs.Told.{FirstEntry}
 use Rattle.wave.specs.Scans.{Scan, scan}
 use Rattle.wave.specs.Grammar.{GoodFile}
 use Rattle.wave.specs.Tables.{ownField}
 use Rattle.wave.specs.Demand3.{Sized}
 use Rattle.upgrade.specs.declared.Target.{Target}
-use Rattle.upgrade.specs.Demand3.{Reserved, renamed, aheadOf, Upgraded}
+use Rattle.upgrade.specs.Demand3.{Reserved, renamed, marked, aheadOf, Upgraded}
 use Rattle.writer.specs.WayBack.{WayBack, tableFor}
 use Rattle.words.specs.Answers.{Answers, WritesOut}
 use Rattle.records.specs.Reading.{ReadsFmt, ReadsBext, PartsOf, ReadsChna, EntryOf, placesOf, entryValues}
@@ -81,11 +83,22 @@ pub record InPlace (out out' w' : List ℕ) : Type 0 where
   pub fits : getD w' 0 0 ≤ length out
   pub rest : out' ≡ writtenIn out' w' ++ drop (getD w' 0 0) out
 
+-- The fourth word k of a row of the table of s, whose ds64 has these entries (document 02): 0 for "own field", exactly where
+-- that isn't all ones; 1 for "ds64 data size", exactly for data with an all-ones field; 2 + p for "the position (from 0) of the
+-- ds64 entry used", the first of the row's name, whose size is the row's
+pub record FourthWord (s : List ℕ) (ks : List Ds64Entry) (row : Entry) (k : ℕ) : Type 0 where
+  pub own : (k ≡ 0) ↔ (ownField s row ≡ ONES → ⊥)
+  pub audio : (k ≡ 1) ↔ ((row .name ≡ DATA) × (ownField s row ≡ ONES))
+  pub entry : (p : ℕ) → k ≡ 2 + p → FirstEntry (row .name) p (row .size) ks
+
 pub record Promise2 : Type 0 where
   -- "A scan accepts exactly the RIFF, RF64 and BW64 files that document 01 defines": the grammar of wave/specs/Grammar.antt;
   -- "with each chunk's name, place and true 64-bit size"
   pub accepts : (s w : List ℕ) (r : ℕ) (w' : List ℕ) → Bytes s → WORDS ≤ length w → Scans s w r w' → (r ≡ 0) ↔ ((a : Scan) × GoodFile s a)
   pub table : (s w : List ℕ) (w' : List ℕ) (a : Scan) → Bytes s → Scans s w 0 w' → GoodFile s a → w' ≡ tabled (a .rows) w
+  -- and where each size came from
+  pub sources : (s w : List ℕ) (w' : List ℕ) (a : Scan) → Scans s w 0 w' → scan s ≡ given a → (i : ℕ) → i < getD w' 0 0
+      → FourthWord s (entriesOf (a .head) s) (rowIn (1 + 4 * i) w') (getD w' (1 + 4 * i + 3) 0)
   -- "What we write reads back as the records .. we gave." Every writer:
   pub in-place : (a : Answer (List ℕ)) (out w out' w' : List ℕ) → WritesOut a out w 0 out' w' → InPlace out out' w'
   -- fmt: the nine words that were given
@@ -147,18 +160,25 @@ pub record UpgradePromise (t : Target) (s w w' : List ℕ) (a : Scan) (r : ℕ) 
   -- "Upgrading succeeds exactly when the first chunk is JUNK of at least 28 bytes; otherwise it gives 19."
   pub succeeds : (r ≡ 0) ↔ Reserved (a .rows)
   pub otherwise : (Reserved (a .rows) → ⊥) → (r ≡ 19) × (u ≡ s)
+  -- before it each size was the chunk's own field's: every fourth word is 0
+  pub before : (i : ℕ) → i < getD w' 0 0 → getD w' (1 + 4 * i + 3) 0 ≡ 0
   -- "After a success every byte is what document 01's rule for the upgrade makes of the old file", and all else that the
   -- demand says of bytes, audio and fields (upgrade/specs/Demand3.antt)
   pub after : r ≡ 0 → Upgraded t s a u
-  -- "The scan accepts it, with the same names, places and sizes in the same order, except that the first name is now ds64."
-  pub scan-after : r ≡ 0 → (v : List ℕ) (q : ℕ) (v' : List ℕ) → WORDS ≤ length v → Scans u v q v' → (q ≡ 0) × (v' ≡ tabled (renamed (a .rows)) v)
+  -- "The scan accepts it, with the same names, places and sizes in the same order, except that the first name is now ds64";
+  -- the fourth word "changes for data alone", from 0 to 1
+  pub scan-after : r ≡ 0 → (v : List ℕ) (q : ℕ) (v' : List ℕ) → WORDS ≤ length v → Scans u v q v'
+      → (q ≡ 0) × (v' ≡ tabled (map marked (renamed (a .rows))) v)
   -- "and so is the sample count as document 01 defines it: the same number, or none both times"
   pub count-after : r ≡ 0 → (v : List ℕ) (q q' : ℕ) (v' v'' : List ℕ) → Counts s v q v' → Counts u v q' v'' → (q' ≡ q) × (v'' ≡ v')
   -- "The 32-bit walk shows every chunk ahead of data and stops at data with 7."
   pub walk-after : r ≡ 0 → (v : List ℕ) (q : ℕ) (v' : List ℕ) → WORDS ≤ length v → Walks32 u v q v'
-      → (q ≡ 7) × (v' ≡ tabled (aheadOf DATA (renamed (a .rows))) v)
+      → (q ≡ 7) × (v' ≡ tabled (aheadOf DATA (map marked (renamed (a .rows)))) v)
 
 pub record Promise3 : Type 0 where
+  -- "The 32-bit walk only ever says own field": each fourth word that it stores is 0, of any bytes
+  pub own : (s v : List ℕ) (r : ℕ) (v' : List ℕ) → WORDS ≤ length v → Walks32 s v r v' → (i : ℕ) → i < getD v' 0 0
+      → getD v' (1 + 4 * i + 3) 0 ≡ 0
   pub first : (s w w' v : List ℕ) (r : ℕ) (v' : List ℕ) → Scans s w 0 w' → WORDS ≤ length v → Walks32 s v r v' → WalkPromise s w w' v r v'
   pub second : (t : Target) (s w w' : List ℕ) (a : Scan) (r : ℕ) (u : List ℕ) → Bytes s → Scans s w 0 w' → scan s ≡ given a
       → a .head .form ≡ Riff → Upgrades t s r u → UpgradePromise t s w w' a r u

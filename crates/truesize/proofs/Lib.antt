@@ -1,2 +1,4 @@
 pub mod Ds64Entries
+pub mod Search
 pub mod Sizes
+pub mod Told

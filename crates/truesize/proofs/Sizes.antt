@@ -4,7 +4,7 @@
 use mathlib.Core.Path.{_≡_, refl, sym, _∙_, ap}
 use mathlib.Core.Bool.{Bool, true, false, not, _&&_}
 use mathlib.Core.List.{List, [], _∷_}
-use Prim.Native.Nat.{ℕ}
+use Prim.Native.Nat.{ℕ, _+_}
 use native.Mathlib.Omega.{arith}
 use lib.Dec.{eqb}
 use borrow.Author.Tests.{eq-eqb, ne-eqb, eqb-true, not-true}
@@ -14,6 +14,7 @@ use Rattle.chunk.specs.declared.Refusal.the-variants.{BadDs64, UnknownSize}
 use Rattle.chunk.specs.Refusals.{Answer, refused, given}
 use Rattle.chunk.specs.Names.{DS64, DATA}
 use Rattle.chunk.specs.Fields.{ONES}
+use Rattle.chunk.specs.Walks.{fieldSize}
 use Rattle.chunk.proofs.Checks.{picked, given-inj, refused-given, true-false, check-given, pick-true, pick-false}
 use Rattle.form.specs.declared.Form.{Form}
 use Rattle.form.specs.declared.Form.the-variants.{Riff, Rf64, Bw64}
@@ -21,7 +22,7 @@ use Rattle.form.specs.declared.Ds64.{Ds64}
 use Rattle.form.specs.declared.Head.{Head}
 use Rattle.form.specs.Forms.{isWide}
 use Rattle.truesize.specs.declared.Size.the-variants as size
-use Rattle.truesize.specs.Sizes.{Ds64Entry, entrySize, knownSize, onesSize, strayDs64, trueSize}
+use Rattle.truesize.specs.Sizes.{Ds64Entry, dataSize, entrySize, knownSize, onesSize, strayDs64, trueSize}
 use Rattle.truesize.specs.Contracts.{sizeAs}
 use Rattle.truesize.proofs.Ds64Entries.{true-field, true-ones}
 
@@ -54,13 +55,16 @@ first-placed f w = rw w
 
 module _ (h : Head) (ks : List Ds64Entry) (at name own : ℕ) (t : TrueSize) (e : trueSize h ks at name own ≡ given t) where
   allowed : (not (strayDs64 (h .form) at name) ≡ true)
-      × (pick (eqb own ONES) (onesSize (h .form) (h .ds64) ks name) (given (record { bytes = own })) ≡ given t)
+      × (pick (eqb own ONES) (onesSize (h .form) (h .ds64) ks name) (given (fieldSize own)) ≡ given t)
   unfolding trueSize
   allowed = check-given (not (strayDs64 (h .form) at name)) BadDs64 _ t e
 
   -- "A size field that is not all ones is the true size"
+  pub own-is : (own ≡ ONES → ⊥) → t ≡ fieldSize own
+  own-is k = sym (given-inj _ t (sym (pick-false (eqb own ONES) _ _ (ne-eqb own ONES k)) ∙ allowed .1))
+
   pub own-true : (own ≡ ONES → ⊥) → t .bytes ≡ own
-  own-true k = ap (λ (x : TrueSize). x .bytes) (sym (given-inj _ t (sym (pick-false (eqb own ONES) _ _ (ne-eqb own ONES k)) ∙ allowed .1)))
+  own-true k = ap (λ (x : TrueSize). x .bytes) (own-is k)
 
   -- "A ds64 anywhere else, or in RIFF, is refused"
   pub ds64-first : name ≡ DS64 → (isWide (h .form) ≡ true) × (at ≡ 12)
@@ -99,11 +103,11 @@ given-wide Riff d ks name t e = absurd (refused-given UnknownSize t e)
 given-wide Rf64 d ks name t e = refl
 given-wide Bw64 d ks name t e = refl
 
-pub known-data : (d : Ds64) (ks : List Ds64Entry) (name : ℕ) → name ≡ DATA → knownSize d ks name ≡ given (record { bytes = d .«data_size» })
+pub known-data : (d : Ds64) (ks : List Ds64Entry) (name : ℕ) → name ≡ DATA → knownSize d ks name ≡ given (dataSize d)
 unfolding knownSize
 known-data d ks name e = pick-true _ _ _ (eq-eqb name DATA e)
 
-pub known-other : (d : Ds64) (ks : List Ds64Entry) (name : ℕ) → (name ≡ DATA → ⊥) → knownSize d ks name ≡ entrySize name ks
+pub known-other : (d : Ds64) (ks : List Ds64Entry) (name : ℕ) → (name ≡ DATA → ⊥) → knownSize d ks name ≡ entrySize 0 name ks
 unfolding knownSize
 known-other d ks name n = pick-false _ _ _ (ne-eqb name DATA n)
 
@@ -122,14 +126,14 @@ given-only : (t : TrueSize) → Only7 (given t)
 unfolding sizeAs
 given-only t e = absurd (let z : _≡_ {A = ℕ} 0 1 = cc in omega arith)
 
-entry-only : (name : ℕ) (ks : List Ds64Entry) → Only7 (entrySize name ks)
+entry-only : (p name : ℕ) (ks : List Ds64Entry) → Only7 (entrySize p name ks)
 unfolding entrySize
-entry-only name [] = λ _. refl
-entry-only name (k ∷ ks) = picked Only7 (eqb (k .name) name) _ _ (λ _. given-only _) λ _. entry-only name ks
+entry-only p name [] = λ _. refl
+entry-only p name (k ∷ ks) = picked Only7 (eqb (k .name) name) _ _ (λ _. given-only _) λ _. entry-only (p + 1) name ks
 
 known-only : (d : Ds64) (ks : List Ds64Entry) (name : ℕ) → Only7 (knownSize d ks name)
 unfolding knownSize
-known-only d ks name = picked Only7 (eqb name DATA) _ _ (λ _. given-only _) λ _. entry-only name ks
+known-only d ks name = picked Only7 (eqb name DATA) _ _ (λ _. given-only _) λ _. entry-only 0 name ks
 
 pub ones-only : (f : Form) (d : Ds64) (ks : List Ds64Entry) (name : ℕ) → Only7 (onesSize f d ks name)
 unfolding onesSize
@@ -141,20 +145,20 @@ ones-only Bw64 d ks name = known-only d ks name
 
 -- whatever ds64 says: "An entry for a size that isn't all ones has no effect"
 pub true-own : (h : Head) (ks : List Ds64Entry) (at name own : ℕ) → (name ≡ DS64 → ⊥) → (own ≡ ONES → ⊥)
-    → trueSize h ks at name own ≡ given (record { bytes = own })
+    → trueSize h ks at name own ≡ given (fieldSize own)
 true-own h ks at name own k l = true-field h ks at name own (other-placed (h .form) at name k) l
 
 pub true-ds64 : (h : Head) (ks : List Ds64Entry) (own : ℕ) → isWide (h .form) ≡ true → (own ≡ ONES → ⊥)
-    → trueSize h ks 12 DS64 own ≡ given (record { bytes = own })
+    → trueSize h ks 12 DS64 own ≡ given (fieldSize own)
 true-ds64 h ks own w l = true-field h ks 12 DS64 own (first-placed (h .form) w) l
 
 -- "on data, the ds64 data size"
 pub true-data : (h : Head) (ks : List Ds64Entry) (at : ℕ) → isWide (h .form) ≡ true
-    → trueSize h ks at DATA ONES ≡ given (record { bytes = h .ds64 .«data_size» })
+    → trueSize h ks at DATA ONES ≡ given (dataSize (h .ds64))
 unfolding onesSize isWide
 true-data h ks at w = true-ones h ks at DATA ONES (other-placed (h .form) at DATA (λ p. omega arith)) refl ∙ go (h .form) w
   where
-    go : (f : Form) → isWide f ≡ true → onesSize f (h .ds64) ks DATA ≡ given (record { bytes = h .ds64 .«data_size» })
+    go : (f : Form) → isWide f ≡ true → onesSize f (h .ds64) ks DATA ≡ given (dataSize (h .ds64))
     go Riff e = absurd (true-false false e refl)
     go Rf64 e = refl
     go Bw64 e = refl

@@ -1,4 +1,4 @@
--- Document 01, "Shape of a file": the true size of a chunk, as the scan knows it.
+-- Document 01, "Shape of a file": the true size of a chunk, as the scan knows it, and (document 02) where it came from.
 use Prim.Native.Nat.{ℕ, zero, suc, _+_}
 use mathlib.Core.Bool.{Bool, not, _&&_}
 use mathlib.Core.List.{List, [], _∷_}
@@ -7,11 +7,12 @@ use lib.Dec.{eqb}
 use Rattle.le.specs.Number.{number}
 use Rattle.le.specs.Choice.{pick}
 use Rattle.chunk.specs.declared.TrueSize.{TrueSize}
+use Rattle.chunk.specs.declared.Source.the-variants.{DataSize, EntryAt}
 use Rattle.chunk.specs.declared.Refusal.the-variants.{BadDs64, UnknownSize}
 use Rattle.chunk.specs.Refusals.{Answer, refused, given, check}
 use Rattle.chunk.specs.Names.{DS64, DATA}
 use Rattle.chunk.specs.Fields.{ONES}
-use Rattle.chunk.specs.Walks.{Rule}
+use Rattle.chunk.specs.Walks.{Rule, fieldSize}
 use Rattle.form.specs.declared.Form.{Form}
 use Rattle.form.specs.declared.Form.the-variants.{Riff, Rf64, Bw64}
 use Rattle.form.specs.declared.Ds64.{Ds64}
@@ -32,16 +33,23 @@ entriesIn (suc n) s = record { name = number 4 0 s; size = number 8 4 s } ∷ en
 unfoldable pub entriesOf : Head → List ℕ → List Ds64Entry
 entriesOf h s = entriesIn (h .ds64 .count) (drop (20 + LEAST) s)
 
--- "the first entry of that name", or 7
-unfoldable pub entrySize : ℕ → List Ds64Entry → Answer TrueSize
-unfolding pick
-entrySize name [] = refused UnknownSize
-entrySize name (k ∷ ks) = pick (eqb (k .name) name) (given (record { bytes = k .size })) (entrySize name ks)
+-- the size that ds64 gives data, and the one that its entry at a position gives
+abbrev pub dataSize : Ds64 → TrueSize
+dataSize d = record { bytes = d .«data_size»; source = DataSize }
 
--- "on data, the ds64 data size; on another chunk, the first entry of that name"
+abbrev pub sizeAt : ℕ → ℕ → TrueSize
+sizeAt position size = record { bytes = size; source = EntryAt position }
+
+-- "the first entry of that name" among those from a position on, or 7
+unfoldable pub entrySize : (position name : ℕ) → List Ds64Entry → Answer TrueSize
+unfolding pick
+entrySize p name [] = refused UnknownSize
+entrySize p name (k ∷ ks) = pick (eqb (k .name) name) (given (sizeAt p (k .size))) (entrySize (p + 1) name ks)
+
+-- "on data, the ds64 data size; on another chunk, the first entry of that name", positions counted "from 0"
 unfoldable pub knownSize : Ds64 → List Ds64Entry → ℕ → Answer TrueSize
 unfolding pick
-knownSize d ks name = pick (eqb name DATA) (given (record { bytes = d .«data_size» })) (entrySize name ks)
+knownSize d ks name = pick (eqb name DATA) (given (dataSize d)) (entrySize 0 name ks)
 
 -- an all-ones field: 7 in RIFF, in the 64-bit forms what ds64 says
 unfoldable pub onesSize : Form → Ds64 → List Ds64Entry → ℕ → Answer TrueSize
@@ -60,4 +68,4 @@ unfoldable pub trueSize : Head → List Ds64Entry → Rule
 unfolding check pick strayDs64
 trueSize h ks at name own =
     check (not (strayDs64 (h .form) at name)) BadDs64
-    (pick (eqb own ONES) (onesSize (h .form) (h .ds64) ks name) (given (record { bytes = own })))
+    (pick (eqb own ONES) (onesSize (h .form) (h .ds64) ks name) (given (fieldSize own)))

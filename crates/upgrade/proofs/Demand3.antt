@@ -1,13 +1,15 @@
 -- Demand 3: the upgrade's outcomes, and what an upgraded take is, put together with the first half.
 -- Assumes nothing.
-use mathlib.Core.Path.{_≡_, subst}
+use mathlib.Core.Path.{_≡_, ap, subst}
 use mathlib.Core.Bool.{false}
 use mathlib.Core.List.{List, [], _∷_}
 use Prim.Native.Nat.{ℕ}
 use Rattle.le.specs.Number.{Bytes}
 use Rattle.chunk.specs.declared.Entry.{Entry}
+use Rattle.chunk.specs.declared.TrueSize.{TrueSize}
 use Rattle.chunk.specs.Refusals.{given}
-use Rattle.chunk.proofs.Finds.{first}
+use Rattle.chunk.proofs.Laid.{laid-lies}
+use Rattle.truesize.proofs.Sizes.{own-is, riff-own}
 use Rattle.form.specs.declared.Form.{Form}
 use Rattle.form.specs.declared.Form.the-variants.{Riff}
 use Rattle.form.specs.declared.Head.{Head}
@@ -15,7 +17,7 @@ use Rattle.form.specs.Forms.{isWide}
 use Rattle.fmt.specs.declared.Format.{Format}
 use Rattle.wave.specs.Scans.{Scan, scan}
 use Rattle.wave.proofs.Scanned.{scan-scanned}
-use Rattle.wave.proofs.FirstHalf.{first-half}
+use Rattle.wave.proofs.FirstHalf.{says-own, first-half}
 use Rattle.upgrade.specs.declared.Target.{Target}
 use Rattle.upgrade.specs.Upgrades.{patches, patched}
 use Rattle.upgrade.specs.Demand3.{Reserved, Upgraded, SecondHalf, Demand3}
@@ -50,6 +52,9 @@ second-half t s a bytes e riff =
         (λ r. (patched (patches t a s) s, upgrade-given t s a e w (true-reserved (a .rows) r))),
       );
       otherwise = λ n. upgrade-unreserved t s a e w (not-reserved (a .rows) n);
+      before = λ x m.
+          let l = laid-lies (scan-scanned s a e .listed .laid) m .sized in
+          ap (λ (z : TrueSize). z .source) (own-is (a .head) _ _ _ _ _ l (riff-own (a .head) _ _ _ _ _ l riff));
       after = λ u p.
           let c = upgrade-succeeded t s a e w u p in
           let r = reserved-true (a .rows) (c .0) in
@@ -58,4 +63,4 @@ second-half t s a bytes e riff =
 
 -- Demand 3, whole.
 pub demand-3 : Demand3
-demand-3 = record { first = first-half; second = second-half }
+demand-3 = record { first = first-half; own = says-own; second = second-half }

@@ -1,26 +1,28 @@
--- The table after an upgrade: the first chunk renamed, and the chunks ahead of a name. Whatever is neither JUNK nor ds64 is
--- counted and found as it was.
+-- The table after an upgrade: the first chunk renamed, data's source another, and the chunks ahead of a name. Whatever is
+-- neither JUNK nor ds64 is counted and found as it was.
 -- Assumes nothing.
 use mathlib.Core.Path.{_≡_, refl, sym, _∙_, ap, ap₂, subst}
 use mathlib.Core.Bool.{true}
 use mathlib.Core.Logic.{_⊎_, inl, inr}
-use mathlib.Core.List.{List, [], _∷_, _++_, List·Memᴰ, List·Memᴰ·head, List·Memᴰ·tail, List·Memᴰ·not-nil, List·Memᴰ·cases-cons}
+use mathlib.Core.List.{List, [], _∷_, _++_, map, List·Memᴰ, List·Memᴰ·head, List·Memᴰ·tail, List·Memᴰ·not-nil, List·Memᴰ·cases-cons}
 use Prim.Native.Nat.{ℕ, _≤_}
 use native.Mathlib.Omega.{arith}
 use lib.Dec.{eqb}
 use borrow.Author.Tests.{eq-eqb, ne-eqb}
 use Rattle.chunk.specs.declared.Entry.{Entry}
+use Rattle.chunk.specs.declared.Source.{Source}
+use Rattle.chunk.specs.declared.Source.the-variants.{DataSize}
 use Rattle.chunk.specs.Names.{DS64, JUNK, FMT, FACT, DATA, BEXT, CHNA}
 use Rattle.chunk.specs.Tables.{count, find}
 use Rattle.chunk.proofs.Checks.{pick-true, pick-false}
-use Rattle.chunk.proofs.Finds.{First, hit, miss, first}
+use Rattle.chunk.proofs.Finds.{First, hit, miss, first, finds-as}
 use Rattle.form.specs.declared.Head.{Head}
 use Rattle.form.specs.Forms.{nameOf, isWide, ds64At}
 use Rattle.listing.proofs.Checked.{Chunked}
 use Rattle.upgrade.specs.declared.Target.{Target}
 use Rattle.upgrade.specs.declared.Target.the-variants as target
 use Rattle.upgrade.specs.Upgrades.{targetName}
-use Rattle.upgrade.specs.Demand3.{aheadOf, targetForm}
+use Rattle.upgrade.specs.Demand3.{sourceNow, marked, aheadOf, targetForm}
 use Rattle.upgrade.proofs.Takes.{skipped}
 
 -- ---- the target's form
@@ -41,23 +43,53 @@ headIn t u = record { form = targetForm t; ds64 = ds64At u }
 -- ---- the first chunk renamed
 
 abbrev pub ds64Row : Entry → Entry
-ds64Row j = record { name = DS64; place = j .place; size = j .size }
+ds64Row j = record { name = DS64; place = j .place; size = j .size; source = j .source }
 
 -- a name that is neither JUNK nor ds64 is counted and found as it was
-pub renamed-same : (name : ℕ) (j : Entry) (rest : List Entry) → j .name ≡ JUNK → (JUNK ≡ name → ⊥) → (DS64 ≡ name → ⊥)
+renamed-same : (name : ℕ) (j : Entry) (rest : List Entry) → j .name ≡ JUNK → (JUNK ≡ name → ⊥) → (DS64 ≡ name → ⊥)
     → (count name (ds64Row j ∷ rest) ≡ count name (j ∷ rest)) × (find name (ds64Row j ∷ rest) ≡ find name (j ∷ rest))
 renamed-same name j rest e p q =
     let a = skipped name (ds64Row j) rest q in
     let b = skipped name j rest (λ r. p (sym e ∙ r)) in
     (a .0 ∙ sym (b .0), a .1 ∙ sym (b .1))
 
-pub renamed-chunked : (j : Entry) (rest : List Entry) → j .name ≡ JUNK → Chunked (j ∷ rest) → Chunked (ds64Row j ∷ rest)
-renamed-chunked j rest e c =
-    let fmt = renamed-same FMT j rest e (λ p. omega arith) (λ p. omega arith) in
-    let audio = renamed-same DATA j rest e (λ p. omega arith) (λ p. omega arith) in
-    let fact = renamed-same FACT j rest e (λ p. omega arith) (λ p. omega arith) in
-    let bext = renamed-same BEXT j rest e (λ p. omega arith) (λ p. omega arith) in
-    let chna = renamed-same CHNA j rest e (λ p. omega arith) (λ p. omega arith) in
+-- ---- where the sizes come from now
+
+pub now-data : (e : Entry) → e .name ≡ DATA → sourceNow e ≡ DataSize
+unfolding sourceNow
+now-data e p = pick-true _ _ _ (eq-eqb (e .name) DATA p)
+
+pub now-other : (e : Entry) → (e .name ≡ DATA → ⊥) → sourceNow e ≡ e .source
+unfolding sourceNow
+now-other e n = pick-false _ _ _ (ne-eqb (e .name) DATA n)
+
+-- every name is counted as it was, and found with its place and size
+marked-same : (name : ℕ) (rows : List Entry) → (count name (map marked rows) ≡ count name rows) × (find name (map marked rows) ≡ marked (find name rows))
+unfolding find
+marked-same name rows =
+    finds-as marked (λ e. refl) name
+    (ap (λ (x : Source). record { name = 0; place = 0; size = 0; source = x }) (now-other _ (λ p. omega (arith, p)))) rows
+
+-- ---- the new table
+
+abbrev pub newRows : Entry → List Entry → List Entry
+newRows j rest = map marked (ds64Row j ∷ rest)
+
+-- a name that is neither JUNK nor ds64 is counted as it was, and found with its place and size
+pub new-same : (name : ℕ) (j : Entry) (rest : List Entry) → j .name ≡ JUNK → (JUNK ≡ name → ⊥) → (DS64 ≡ name → ⊥)
+    → (count name (newRows j rest) ≡ count name (j ∷ rest)) × (find name (newRows j rest) ≡ marked (find name (j ∷ rest)))
+new-same name j rest e p q =
+    let a = marked-same name (ds64Row j ∷ rest) in
+    let b = renamed-same name j rest e p q in
+    (a .0 ∙ b .0, a .1 ∙ ap marked (b .1))
+
+pub new-chunked : (j : Entry) (rest : List Entry) → j .name ≡ JUNK → Chunked (j ∷ rest) → Chunked (newRows j rest)
+new-chunked j rest e c =
+    let fmt = new-same FMT j rest e (λ p. omega arith) (λ p. omega arith) in
+    let audio = new-same DATA j rest e (λ p. omega arith) (λ p. omega arith) in
+    let fact = new-same FACT j rest e (λ p. omega arith) (λ p. omega arith) in
+    let bext = new-same BEXT j rest e (λ p. omega arith) (λ p. omega arith) in
+    let chna = new-same CHNA j rest e (λ p. omega arith) (λ p. omega arith) in
     record {
       oneFmt = fmt .0 ∙ c .oneFmt;
       oneData = audio .0 ∙ c .oneData;

@@ -14,13 +14,14 @@ use borrow.Author.Tests.{ne-eqb, eqb-false, not-true}
 use Rattle.le.specs.Number.{Bytes, number}
 use Rattle.le.proofs.Laws.{number-bound}
 use Rattle.chunk.specs.declared.Entry.{Entry}
+use Rattle.chunk.specs.declared.TrueSize.{TrueSize}
 use Rattle.chunk.specs.Names.{DS64, JUNK, FMT, FACT, DATA}
 use Rattle.chunk.specs.Fields.{ONES}
 use Rattle.chunk.specs.Refusals.{given}
 use Rattle.chunk.specs.Tables.{count, find}
-use Rattle.chunk.specs.Walks.{Rule, past}
+use Rattle.chunk.specs.Walks.{Rule, fieldSize, past}
 use Rattle.chunk.proofs.Checks.{picked}
-use Rattle.chunk.proofs.Laid.{Row, Laid, next, laid-lies, Apart, same, before, after, laid-apart}
+use Rattle.chunk.proofs.Laid.{row-size, Row, Laid, next, laid-lies, Apart, same, before, after, laid-apart}
 use Rattle.chunk.proofs.Finds.{First, hit, miss, first, found}
 use Rattle.form.specs.declared.Form.{Form}
 use Rattle.form.specs.declared.Form.the-variants.{Riff}
@@ -28,7 +29,7 @@ use Rattle.form.specs.declared.Head.{Head}
 use Rattle.form.specs.Forms.{headAs, formSize, LEAST}
 use Rattle.form.proofs.Heads.{riff-head, form-own}
 use Rattle.truesize.specs.Sizes.{trueSize, entriesOf}
-use Rattle.truesize.proofs.Sizes.{own-true, ds64-first, riff-own}
+use Rattle.truesize.proofs.Sizes.{own-is, ds64-first, riff-own}
 use Rattle.fmt.specs.declared.Format.{Format}
 use Rattle.wave.specs.Scans.{Scan}
 use Rattle.listing.proofs.Checked.{Checked}
@@ -111,11 +112,14 @@ module _ (s : List ℕ) (h : Head) (j : Entry) (rest : List Entry) (k : Take s h
   fact-in n = in-rest FACT (λ p. omega arith) (omega (arith, n))
 
   -- in RIFF the own field is the size, and not all ones
-  pub own-size : (e : Entry) → List·Memᴰ e rest → (number 4 (e .place - 4) s ≡ ONES → ⊥) × (e .size ≡ number 4 (e .place - 4) s)
-  own-size e m =
+  pub own-row : (e : Entry) → List·Memᴰ e rest → (number 4 (e .place - 4) s ≡ ONES → ⊥) × (row-size e ≡ fieldSize (number 4 (e .place - 4) s))
+  own-row e m =
       let l = laid-lies rest-laid m .sized in
       let n = riff-own h (entriesOf h s) (e .place - 8) (e .name) (number 4 (e .place - 4) s) _ l (k .riff) in
-      (n, own-true h (entriesOf h s) (e .place - 8) (e .name) (number 4 (e .place - 4) s) _ l n)
+      (n, own-is h (entriesOf h s) (e .place - 8) (e .name) (number 4 (e .place - 4) s) _ l n)
+
+  pub own-size : (e : Entry) → List·Memᴰ e rest → (number 4 (e .place - 4) s ≡ ONES → ⊥) × (e .size ≡ number 4 (e .place - 4) s)
+  own-size e m = let r = own-row e m in (r .0, ap (λ (t : TrueSize). t .bytes) (r .1))
 
   pub not-ds64 : (e : Entry) → List·Memᴰ e rest → e .name ≡ DS64 → ⊥
   not-ds64 e m p =

@@ -5,29 +5,31 @@
 use mathlib.Core.Path.{_≡_, refl, sym, _∙_, ap, ap₂, subst}
 use mathlib.Core.Bool.{Bool, true, false}
 use mathlib.Core.Logic.{_⊎_, inl, inr}
-use mathlib.Core.List.{List, _∷_, List·Memᴰ, List·Memᴰ·cases-cons}
+use mathlib.Core.List.{List, _∷_, List·Memᴰ, List·Memᴰ·cases-cons, Memᴰ·of-map}
 use Prim.Native.Nat.{ℕ, _-_}
 use native.Mathlib.Omega.{arith}
-use lib.ListN.{length}
+use lib.ListN.{length, length-map}
 use lib.Dec.{eqb, lit≤}
 use borrow.Author.Tests.{eqb-true, eqb-false}
 use Rattle.le.specs.Number.{number}
 use Rattle.chunk.specs.declared.Entry.{Entry}
+use Rattle.chunk.specs.declared.Source.{Source}
+use Rattle.chunk.specs.declared.TrueSize.{TrueSize}
 use Rattle.chunk.specs.declared.Refusal.the-variants.{UnknownSize}
 use Rattle.chunk.specs.declared.Verdict.the-variants.{Refused}
 use Rattle.chunk.specs.Names.{DS64, JUNK, FMT, FACT, DATA}
 use Rattle.chunk.specs.Fields.{ONES}
 use Rattle.chunk.specs.Refusals.{given}
 use Rattle.chunk.specs.Tables.{count, find}
-use Rattle.chunk.specs.Walks.{Rule, past}
-use Rattle.chunk.proofs.Laid.{row-size, Row, Laid, next, laid-lies, Shown, relaid}
+use Rattle.chunk.specs.Walks.{Rule, fieldSize, past}
+use Rattle.chunk.proofs.Laid.{row-size, Row, Laid, next, laid-lies, Shown, relaid-as}
 use Rattle.chunk.proofs.Finds.{only}
 use Rattle.form.specs.declared.Form.{Form}
 use Rattle.form.specs.declared.Head.{Head}
 use Rattle.form.specs.Forms.{ds64At, formSize}
 use Rattle.form.proofs.Heads.{Opened, head-wide, rules-ds64, form-ones}
 use Rattle.truesize.specs.Sizes.{trueSize, entriesOf}
-use Rattle.truesize.proofs.Sizes.{true-own, true-ds64, true-data, own-true, riff-own}
+use Rattle.truesize.proofs.Sizes.{true-own, true-ds64, true-data, own-is, riff-own}
 use Rattle.fmt.specs.declared.Format.{Format}
 use Rattle.wave.specs.Scans.{Scan, scan, payload, judged, walk32}
 use Rattle.samples.specs.Counts.{factCount, samplesIn, samplesOf}
@@ -40,12 +42,12 @@ use Rattle.wave.proofs.FirstHalf.{first-half}
 use Rattle.upgrade.specs.declared.Target.{Target}
 use Rattle.upgrade.specs.declared.Target.the-variants as target
 use Rattle.upgrade.specs.Upgrades.{hasFact, thirdFor, patches, patched}
-use Rattle.upgrade.specs.Demand3.{renamed, aheadOf, targetForm, changed, Beside, Holds, Upgraded}
+use Rattle.upgrade.specs.Demand3.{renamed, marked, aheadOf, targetForm, changed, Beside, Holds, Upgraded}
 use Rattle.upgrade.proofs.Patches.{patched-length}
 use Rattle.upgrade.proofs.Stores.{field-beside, number-beside, byte-beside, holds}
 use Rattle.upgrade.proofs.Thirds.{third-fact}
-use Rattle.upgrade.proofs.Takes.{take, Take, junk-row, rest-laid, past-junk, data-in, fmt-in, own-size, not-ds64, low-beside, fact-kept, name-beside, own-beside, payload-beside, form-whole, fact-has, fits}
-use Rattle.upgrade.proofs.Renamed.{target-named, target-wide, headIn, ds64Row, renamed-same, renamed-chunked, split}
+use Rattle.upgrade.proofs.Takes.{take, Take, junk-row, rest-laid, past-junk, data-in, fmt-in, own-row, own-size, not-ds64, low-beside, fact-kept, name-beside, own-beside, payload-beside, form-whole, fact-has, fits}
+use Rattle.upgrade.proofs.Renamed.{target-named, target-wide, headIn, ds64Row, now-data, now-other, newRows, new-same, new-chunked, split}
 
 module _ (t : Target) (s : List ℕ) (h : Head) (j : Entry) (rest : List Entry) (f : Format) where
   abbrev old : Scan
@@ -58,7 +60,7 @@ module _ (t : Target) (s : List ℕ) (h : Head) (j : Entry) (rest : List Entry) 
   rule = trueSize (headIn t u) (entriesOf (headIn t u) u)
 
   abbrev new : Scan
-  new = record { head = headIn t u; rows = ds64Row j ∷ rest; format = f }
+  new = record { head = headIn t u; rows = newRows j rest; format = f }
 
   abbrev Judged : Type 0
   Judged = judged (payload (find FMT (j ∷ rest)) s) (find DATA (j ∷ rest) .size) ≡ given f
@@ -71,7 +73,7 @@ module _ (t : Target) (s : List ℕ) (h : Head) (j : Entry) (rest : List Entry) 
     stored = holds t s old (form-whole s h j rest k .0 ∙ omega (arith, form-whole s h j rest k .1)) (fits s h j rest k t f)
 
     -- each later header by the new rule
-    shown : (e : Entry) → List·Memᴰ e rest → Shown rule u e
+    shown : (e : Entry) → List·Memᴰ e rest → Shown rule u (marked e)
     unfolding ds64At
     shown e m =
         let l = laid-lies (rest-laid s h j rest k) m in
@@ -85,32 +87,38 @@ module _ (t : Target) (s : List ℕ) (h : Head) (j : Entry) (rest : List Entry) 
             let p = past-junk s h j rest k DATA (λ r. omega arith) in
             only DATA rest e (omega (arith, p .0, k .listed .chunked .oneData)) m q ∙ sym (p .1)
 
-        go : (b : Bool) → eqb (e .name) DATA ≡ b → rule (e .place - 8) (e .name) (number 4 (e .place - 4) u) ≡ given (row-size e)
+        go : (b : Bool) → eqb (e .name) DATA ≡ b → rule (e .place - 8) (e .name) (number 4 (e .place - 4) u) ≡ given (row-size (marked e))
         go true q =
             let name = eqb-true (e .name) DATA q in
             let own = ap (λ (x : Entry). number 4 (x .place - 4) u) (found name) ∙ stored .dataField in
             ap₂ (rule (e .place - 8)) name own
             ∙ true-data (headIn t u) (entriesOf (headIn t u) u) (e .place - 8) (target-wide t)
-            ∙ ap (λ (n : ℕ). given (record { bytes = n })) (stored .dataSize ∙ sym (ap (λ (x : Entry). x .size) (found name)))
+            ∙ ap₂ (λ (n : ℕ) (x : Source). given (record { bytes = n; source = x }))
+            (stored .dataSize ∙ sym (ap (λ (x : Entry). x .size) (found name))) (sym (now-data e name))
         go false q =
-            let own = number-beside t old s 4 (e .place - 4) (own-beside s h j rest k t f e m (eqb-false (e .name) DATA q)) in
-            let size = own-size s h j rest k e m in
+            let name = eqb-false (e .name) DATA q in
+            let own = number-beside t old s 4 (e .place - 4) (own-beside s h j rest k t f e m name) in
+            let size = own-row s h j rest k e m in
             ap (rule (e .place - 8) (e .name)) own
             ∙ true-own (headIn t u) (entriesOf (headIn t u) u) (e .place - 8) (e .name) (number 4 (e .place - 4) s)
             (not-ds64 s h j rest k e m) (size .0)
-            ∙ ap (λ (n : ℕ). given (record { bytes = n })) (sym (size .1))
+            ∙ ap given (sym (size .1))
+            ∙ ap (λ (x : Source). given (record { bytes = e .size; source = x })) (sym (now-other e name))
 
     junk-own : number 4 16 u ≡ number 4 16 s
     junk-own = number-beside t old s 4 16 (low-beside s h j rest k t f 4 16 (lit≤ tt) (lit≤ tt) (inr (lit≤ tt)))
 
     -- JUNK's own field is its size, and not all ones
-    junk-size : (number 4 16 s ≡ ONES → ⊥) × (j .size ≡ number 4 16 s)
-    junk-size =
+    junk-own-row : (number 4 16 s ≡ ONES → ⊥) × (row-size j ≡ fieldSize (number 4 16 s))
+    junk-own-row =
         let r = junk-row s h j rest k .sized in
         let n = riff-own h (entriesOf h s) 12 (j .name) (number 4 16 s) _ r (k .riff) in
-        (n, own-true h (entriesOf h s) 12 (j .name) (number 4 16 s) _ r n)
+        (n, own-is h (entriesOf h s) 12 (j .name) (number 4 16 s) _ r n)
 
-    first-row : Row rule u 12 (ds64Row j)
+    junk-size : (number 4 16 s ≡ ONES → ⊥) × (j .size ≡ number 4 16 s)
+    junk-size = (junk-own-row .0, ap (λ (x : TrueSize). x .bytes) (junk-own-row .1))
+
+    first-row : Row rule u 12 (marked (ds64Row j))
     unfolding past
     first-row =
         let r = junk-row s h j rest k in
@@ -119,13 +127,14 @@ module _ (t : Target) (s : List ℕ) (h : Head) (j : Entry) (rest : List Entry) 
           named = stored .name;
           sized = ap (rule 12 DS64) junk-own
               ∙ true-ds64 (headIn t u) (entriesOf (headIn t u) u) (number 4 16 s) (target-wide t) (junk-size .0)
-              ∙ ap (λ (n : ℕ). given (record { bytes = n })) (sym (junk-size .1));
+              ∙ ap given (sym (junk-own-row .1))
+              ∙ ap (λ (x : Source). given (record { bytes = j .size; source = x })) (sym (now-other (ds64Row j) (λ p. omega (arith, p))));
           ends = rw long (r .ends);
         }
 
-    laid : Laid rule u 12 (ds64Row j ∷ rest)
+    laid : Laid rule u 12 (newRows j rest)
     unfolding past
-    laid = next first-row (relaid rule u long shown (rest-laid s h j rest k))
+    laid = next first-row (relaid-as marked rule u (λ e. (refl, refl)) long shown (rest-laid s h j rest k))
 
     opened : Opened u (headIn t u)
     unfolding ds64At past
@@ -157,18 +166,20 @@ module _ (t : Target) (s : List ℕ) (h : Head) (j : Entry) (rest : List Entry) 
     unfolding payload
     kept e m n = field-beside t old s (e .size) (e .place) (payload-beside s h j rest k t f e m n)
 
-    same-find : (name : ℕ) → (JUNK ≡ name → ⊥) → (DS64 ≡ name → ⊥) → find name (ds64Row j ∷ rest) ≡ find name (j ∷ rest)
-    same-find name p q = renamed-same name j rest (k .junk) p q .1
+    same-find : (name : ℕ) → (JUNK ≡ name → ⊥) → (DS64 ≡ name → ⊥) → find name (new .rows) ≡ marked (find name (j ∷ rest))
+    same-find name p q = new-same name j rest (k .junk) p q .1
 
-    same-data : find DATA (ds64Row j ∷ rest) ≡ find DATA (j ∷ rest)
+    same-data : find DATA (new .rows) ≡ marked (find DATA (j ∷ rest))
     same-data = same-find DATA (λ p. omega arith) (λ p. omega arith)
 
-    audio : payload (find DATA (ds64Row j ∷ rest)) u ≡ payload (find DATA (j ∷ rest)) s
+    audio : payload (find DATA (new .rows)) u ≡ payload (find DATA (j ∷ rest)) s
+    unfolding payload
     audio =
         let d = data-in s h j rest k in
         ap (λ (e : Entry). payload e u) same-data ∙ kept (find DATA (j ∷ rest)) (d .0) (λ p. omega (arith, d .1))
 
-    fmt-kept : payload (find FMT (ds64Row j ∷ rest)) u ≡ payload (find FMT (j ∷ rest)) s
+    fmt-kept : payload (find FMT (new .rows)) u ≡ payload (find FMT (j ∷ rest)) s
+    unfolding payload
     fmt-kept =
         let m = fmt-in s h j rest k in
         ap (λ (e : Entry). payload e u) (same-find FMT (λ p. omega arith) (λ p. omega arith))
@@ -181,18 +192,18 @@ module _ (t : Target) (s : List ℕ) (h : Head) (j : Entry) (rest : List Entry) 
           listed = record {
             opened = opened;
             laid = laid;
-            few = k .listed .few;
-            chunked = renamed-chunked j rest (k .junk) (k .listed .chunked);
+            few = omega (arith, length-map (ds64Row j ∷ rest) marked, k .listed .few);
+            chunked = new-chunked j rest (k .junk) (k .listed .chunked);
           };
           format = ap₂ judged fmt-kept (ap (λ (e : Entry). e .size) same-data) ∙ judge;
         })
 
     -- ---- the sample count
 
-    same-count : count FACT (ds64Row j ∷ rest) ≡ count FACT (j ∷ rest)
-    same-count = renamed-same FACT j rest (k .junk) (λ p. omega arith) (λ p. omega arith) .0
+    same-count : count FACT (new .rows) ≡ count FACT (j ∷ rest)
+    same-count = new-same FACT j rest (k .junk) (λ p. omega arith) (λ p. omega arith) .0
 
-    same-fact : find FACT (ds64Row j ∷ rest) ≡ find FACT (j ∷ rest)
+    same-fact : find FACT (new .rows) ≡ marked (find FACT (j ∷ rest))
     same-fact = same-find FACT (λ p. omega arith) (λ p. omega arith)
 
     abbrev factNow : ℕ
@@ -202,7 +213,7 @@ module _ (t : Target) (s : List ℕ) (h : Head) (j : Entry) (rest : List Entry) 
     factThen = number 4 (find FACT (j ∷ rest) .place) s
 
     count-same : (count FACT (j ∷ rest) ≡ 0 → ⊥)
-        → factCount (targetForm t) (ds64At u .third) (number 4 (find FACT (ds64Row j ∷ rest) .place) u) ≡ factThen
+        → factCount (targetForm t) (ds64At u .third) (number 4 (find FACT (new .rows) .place) u) ≡ factThen
     unfolding ds64At targetForm
     count-same n =
         ap (λ (e : Entry). factCount (targetForm t) (number 8 36 u) (number 4 (e .place) u)) same-fact
@@ -253,12 +264,20 @@ module _ (t : Target) (s : List ℕ) (h : Head) (j : Entry) (rest : List Entry) 
             own-size s h j rest k e l .0
             (sym (number-beside t old s 4 (e .place - 4) (own-beside s h j rest k t f e l n)) ∙ o)
 
-    stops : walk32 u ≡ record { rows = aheadOf DATA (ds64Row j ∷ rest); end = Refused UnknownSize }
+    -- a new row has the name and the place of an old one
+    new-sized : (e : Entry) → List·Memᴰ e (new .rows) → (e .name ≡ DATA → ⊥) → ownField u e ≡ ONES → ⊥
+    unfolding ownField
+    new-sized e m n o =
+        let x = Memᴰ·of-map marked (ds64Row j ∷ rest) m in
+        sized (x .0) (x .1) (λ p. n (sym (ap (λ (y : Entry). y .name) (x .2)) ∙ p)) (ap (λ (y : Entry). number 4 (y .place - 4) u) (x .2) ∙ o)
+
+    stops : walk32 u ≡ record { rows = aheadOf DATA (new .rows); end = Refused UnknownSize }
     unfolding Sized ownField
     stops =
-        let p = split DATA (ds64Row j ∷ rest) (omega (arith, renamed-chunked j rest (k .junk) (k .listed .chunked) .oneData)) in
-        first-half u new accepted .stops (aheadOf DATA (ds64Row j ∷ rest)) (find DATA (ds64Row j ∷ rest)) (p .behind) (p .is)
-        (λ e m. sized e (p .others e m .0) (p .others e m .1))
+        let c = new-chunked j rest (k .junk) (k .listed .chunked) in
+        let p = split DATA (new .rows) (omega (arith, c .oneData)) in
+        first-half u new accepted .stops (aheadOf DATA (new .rows)) (find DATA (new .rows)) (p .behind) (p .is)
+        (λ e m. new-sized e (p .others e m .0) (p .others e m .1))
         (ap (λ (e : Entry). number 4 (e .place - 4) u) same-data ∙ stored .dataField)
 
     pub take-upgraded : Upgraded t s old u

@@ -9,6 +9,7 @@ use Rattle.le.specs.Number.{number}
 use Rattle.chunk.specs.declared.Entry.{Entry}
 use Rattle.chunk.specs.Refusals.{Answer, refused, given, refusalNumber, verdictNumber}
 use Rattle.chunk.specs.Names.{JUNK, FMT, DATA, DS64}
+use Rattle.chunk.specs.Sources.{sourceNumber}
 use Rattle.chunk.specs.Walks.{Walked}
 use Rattle.wave.specs.Scans.{Scan, scan, walk32}
 use Rattle.upgrade.specs.declared.Target.the-variants.{Rf64, Bw64}
@@ -23,10 +24,11 @@ file =
     ∷ 0x00 ∷ 0xEE ∷ 0x02 ∷ 0x00 ∷ 0x04 ∷ 0x00 ∷ 0x10 ∷ 0x00
     ∷ 0x64 ∷ 0x61 ∷ 0x74 ∷ 0x61 ∷ 0x04 ∷ 0x00 ∷ 0x00 ∷ 0x00 ∷ 0x01 ∷ 0x00 ∷ 0xFF ∷ 0xFF ∷ [])
 
--- what is compared: the number of a refusal, or 0, and then the rows as name, place, size
+-- what is compared: the number of a refusal, or 0, and then the rows as name, place, size, and (document 02) the number of
+-- the size's source: 0 but for data of an upgraded file, where it is 1
 unfoldable pub cells : List Entry → List ℕ
 cells [] = []
-cells (e ∷ es) = e .name ∷ e .place ∷ e .size ∷ cells es
+cells (e ∷ es) = e .name ∷ e .place ∷ e .size ∷ sourceNumber (e .source) ∷ cells es
 
 unfoldable pub scanned : Answer Scan → List ℕ
 scanned (refused r) = refusalNumber r ∷ []
@@ -58,7 +60,7 @@ cases =
     -- P1 empty input: 1
     case (scanned (scan [])) (1 ∷ [])
     -- P2 the file above: its table, JUNK 20 28; fmt 56 16; data 80 4
-    ∷ case (scanned (scan file)) (0 ∷ JUNK ∷ 20 ∷ 28 ∷ FMT ∷ 56 ∷ 16 ∷ DATA ∷ 80 ∷ 4 ∷ [])
+    ∷ case (scanned (scan file)) (0 ∷ JUNK ∷ 20 ∷ 28 ∷ 0 ∷ FMT ∷ 56 ∷ 16 ∷ 0 ∷ DATA ∷ 80 ∷ 4 ∷ 0 ∷ [])
     -- P3 it with byte 0 changed: 2
     ∷ case (scanned (scan (set file 0 0x53))) (2 ∷ [])
     -- P4 it with form field all ones: 3
@@ -70,8 +72,8 @@ cases =
     -- P7 data field all ones in RIFF: 7
     ∷ case (scanned (scan (ones 76))) (7 ∷ [])
     -- P8 upgraded to RF64: same places, walk shows ds64 and fmt, then 7
-    ∷ case (onto (upgraded Rf64 file) λ t. scanned (scan t)) (0 ∷ DS64 ∷ 20 ∷ 28 ∷ FMT ∷ 56 ∷ 16 ∷ DATA ∷ 80 ∷ 4 ∷ [])
-    ∷ case (onto (upgraded Rf64 file) λ t. walked (walk32 t)) (7 ∷ DS64 ∷ 20 ∷ 28 ∷ FMT ∷ 56 ∷ 16 ∷ [])
+    ∷ case (onto (upgraded Rf64 file) λ t. scanned (scan t)) (0 ∷ DS64 ∷ 20 ∷ 28 ∷ 0 ∷ FMT ∷ 56 ∷ 16 ∷ 0 ∷ DATA ∷ 80 ∷ 4 ∷ 1 ∷ [])
+    ∷ case (onto (upgraded Rf64 file) λ t. walked (walk32 t)) (7 ∷ DS64 ∷ 20 ∷ 28 ∷ 0 ∷ FMT ∷ 56 ∷ 16 ∷ 0 ∷ [])
     -- P9 upgraded to BW64: third number 0
     ∷ case (onto (upgraded Bw64 file) λ t. number 8 36 t ∷ []) (0 ∷ [])
     -- P10 upgraded twice: 18

@@ -5,12 +5,14 @@ use Prim.Native.Nat.{ℕ, _+_, _-_, _≤_}
 use mathlib.Core.Path.{_≡_}
 use mathlib.Core.Logic.{_↔_, _⊎_}
 use mathlib.Core.Bool.{true}
-use mathlib.Core.List.{List, [], _∷_}
+use mathlib.Core.List.{List, [], _∷_, map, List·Memᴰ}
 use lib.ListN.{length, getD}
 use lib.Dec.{eqb}
 use Rattle.le.specs.Number.{Bytes, number}
 use Rattle.le.specs.Choice.{pick}
 use Rattle.chunk.specs.declared.Entry.{Entry}
+use Rattle.chunk.specs.declared.Source.{Source}
+use Rattle.chunk.specs.declared.Source.the-variants.{Own, DataSize}
 use Rattle.chunk.specs.declared.Refusal.the-variants.{UnknownSize, NoReserve}
 use Rattle.chunk.specs.declared.Verdict.the-variants.{Refused}
 use Rattle.chunk.specs.Refusals.{refused, given}
@@ -22,7 +24,7 @@ use Rattle.form.specs.declared.Form.the-variants as form-variants
 use Rattle.form.specs.Forms.{LEAST}
 use Rattle.wave.specs.Scans.{Scan, scan, payload, walk32}
 use Rattle.samples.specs.Counts.{samplesOf}
-use Rattle.wave.specs.Demand3.{FirstHalf}
+use Rattle.wave.specs.Demand3.{SaysOwn, FirstHalf}
 use Rattle.upgrade.specs.declared.Target.{Target}
 use Rattle.upgrade.specs.declared.Target.the-variants.{Rf64, Bw64}
 use Rattle.upgrade.specs.Upgrades.{hasFact, thirdFor, targetName, patches, patched, upgraded}
@@ -35,7 +37,15 @@ Reserved (e ∷ es) = (e .name ≡ JUNK) × (LEAST ≤ e .size)
 -- "the same names, places and sizes in the same order, except that the first name is now ds64"
 unfoldable pub renamed : List Entry → List Entry
 renamed [] = []
-renamed (e ∷ es) = record { name = DS64; place = e .place; size = e .size } ∷ es
+renamed (e ∷ es) = record { name = DS64; place = e .place; size = e .size; source = e .source } ∷ es
+
+-- where a size comes from now (document 02): "In demand 3 this mark changes for data alone", whose field is all ones now
+unfoldable pub sourceNow : Entry → Source
+unfolding pick
+sourceNow e = pick (eqb (e .name) DATA) DataSize (e .source)
+
+abbrev pub marked : Entry → Entry
+marked e = record { name = e .name; place = e .place; size = e .size; source = sourceNow e }
 
 -- the chunks ahead of the first of a name
 unfoldable pub aheadOf : ℕ → List Entry → List Entry
@@ -105,10 +115,11 @@ pub record Upgraded (t : Target) (s : List ℕ) (a : Scan) (u : List ℕ) : Type
   pub long : length u ≡ length s
   pub fields : Holds t s a u
   pub others : (i : ℕ) → Beside 1 i (changed t a) → getD u i 0 ≡ getD s i 0
-  -- "The scan accepts it, with the same names, places and sizes in the same order, except that the first name is now ds64."
+  -- "The scan accepts it, with the same names, places and sizes in the same order, except that the first name is now ds64";
+  -- the source of data's size was its own field and is ds64's data size, and every other is as it was
   pub again : Scan
   pub accepted : scan u ≡ given again
-  pub rows : again .rows ≡ renamed (a .rows)
+  pub rows : again .rows ≡ map marked (renamed (a .rows))
   pub form : again .head .form ≡ targetForm t
   pub format : again .format ≡ a .format
   -- "Every audio byte is the same"
@@ -124,6 +135,8 @@ pub record SecondHalf (t : Target) (s : List ℕ) (a : Scan) : Type 0 where
   pub succeeds : ((u : List ℕ) × (upgraded t s ≡ given u)) ↔ Reserved (a .rows)
   -- "otherwise it gives 19"
   pub otherwise : (Reserved (a .rows) → ⊥) → upgraded t s ≡ refused NoReserve
+  -- before it, each size came from its chunk's own field
+  pub before : (e : Entry) → List·Memᴰ e (a .rows) → e .source ≡ Own
   -- "After a success .."
   pub after : (u : List ℕ) → upgraded t s ≡ given u → Upgraded t s a u
 
@@ -132,6 +145,8 @@ pub record SecondHalf (t : Target) (s : List ℕ) (a : Scan) : Type 0 where
 pub record Demand3 : Type 0 where
   -- "Take any file that the scan accepts .. and read it with the plain 32-bit walk"
   pub first : (s : List ℕ) (a : Scan) → scan s ≡ given a → FirstHalf s a
+  -- "The 32-bit walk only ever says own field" (document 02), of any bytes
+  pub own : (s : List ℕ) → SaysOwn s
   -- "Now take any accepted RIFF file, and RF64 or BW64 as target."
   pub second : (t : Target) (s : List ℕ) (a : Scan) → Bytes s → scan s ≡ given a → a .head .form ≡ form-variants.Riff
       → SecondHalf t s a

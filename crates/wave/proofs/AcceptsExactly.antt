@@ -19,7 +19,7 @@ use Rattle.chunk.specs.Tables.{count, find}
 use Rattle.chunk.specs.Walks.{Rule, past}
 use Rattle.chunk.proofs.Checks.{true-false, given-inj, check-given, andThen-given}
 use Rattle.chunk.proofs.Finds.{counted, only}
-use Rattle.chunk.proofs.Laid.{Row, Laid, done, next, row-fits, laid-lies}
+use Rattle.chunk.proofs.Laid.{row-size, Row, Laid, done, next, row-fits, laid-lies}
 use Rattle.form.specs.declared.Form.{Form}
 use Rattle.form.specs.declared.Form.the-variants.{Riff, Rf64, Bw64}
 use Rattle.form.specs.declared.Ds64.{Ds64}
@@ -27,7 +27,9 @@ use Rattle.form.specs.declared.Head.{Head}
 use Rattle.form.specs.Forms.{isWide, ds64At, noDs64, headAs, formSize, LEAST}
 use Rattle.form.proofs.Heads.{Opened, Ds64Rules, ds64-rules, riff-head, wide-head, form-own, form-ones}
 use Rattle.truesize.specs.Sizes.{Ds64Entry, entriesIn, entriesOf, trueSize}
+use Rattle.truesize.specs.Told.{Told}
 use Rattle.truesize.proofs.Sizes.{own-true, ds64-first}
+use Rattle.truesize.proofs.Told.{size-told}
 use Rattle.fmt.specs.declared.Format.{Format}
 use Rattle.fmt.specs.Formats.{formatIn}
 use Rattle.wave.specs.Scans.{payload, wholeBlocks, judged, Scan}
@@ -35,7 +37,7 @@ use Rattle.wave.specs.Tables.{ownField}
 use Rattle.wave.specs.Grammar.{Chunk, chunkBytes, allBytes, fileBytes, rowAt, rowsAt, Without, Ds64First, GoodChunk, GoodFile, AcceptsExactly}
 use Rattle.wave.proofs.Scanned.{Scanned, scan-scanned}
 use Rattle.wave.proofs.Tables.{laid-first}
-use Rattle.wave.proofs.Ds64Sizes.{Told, size-told, entries-count, entries-fit, ds64-bytes}
+use Rattle.wave.proofs.Ds64Bytes.{entries-count, entries-fit, ds64-bytes}
 use Rattle.wave.proofs.GoodFiles.{chunk-length, good-scan}
 
 -- ---- the chunk that a row says
@@ -47,6 +49,7 @@ cut s e =
       field = ownField s e;
       payload = payload e s;
       pad = field (e .size % 2) (e .place + e .size) s;
+      source = e .source;
     }
 
 -- its payload and its pad have their lengths
@@ -93,7 +96,7 @@ module _ {rule : Rule} (s : List ℕ) (b : Bytes s) where
       let to : at + length (chunkBytes (cut s e)) ≡ past e =
       unfold past in omega (arith, chunk-length (cut s e), n, pad-length s e (r .ends), r .place) in
       ap₂ (λ (x : Entry) (xs : List Entry). x ∷ xs)
-      (λ i. record { name = e .name; place = sym (r .place) i; size = n i })
+      (λ i. record { name = e .name; place = sym (r .place) i; size = n i; source = e .source })
       (ap (λ (k : ℕ). rowsAt k (map (cut s) es)) to ∙ laid-rows l)
 
 -- ---- an accepted file
@@ -153,17 +156,14 @@ module _ (s : List ℕ) (b : Bytes s) (a : Scan) (t : Scanned s a) where
   chunk-good e m =
       let r = laid-lies laid m in
       let n = payload-length s e (r .ends) in
-      let told = subst (Told form (a .head .ds64) ks (e .name) (ownField s e)) (sym n)
-      (size-told (a .head) ks (e .place - 8) (e .name) (ownField s e) (e .size) (r .sized)) in
       let w = t .listed .chunked in
       record {
         nameFits = subst (λ (k : ℕ). k < 256 ^ 4) (r .named) (number-bound 4 (e .place - 8) s b);
         fieldFits = number-bound 4 (e .place - 4) s b;
         padded = pad-length s e (r .ends) ∙ ap (λ (k : ℕ). k % 2) (sym n);
-        own = told .plain;
-        wide = told .wide;
-        audio = told .audio;
-        other = told .other;
+        sized =
+            subst (λ (k : ℕ). Told form (a .head .ds64) ks (e .name) (ownField s e) (record { bytes = k; source = e .source })) (sym n)
+            (size-told (a .head) ks (e .place - 8) (e .name) (ownField s e) (row-size e) (r .sized));
         fact = λ p.
             let f = ap (λ (x : Entry). x .size) (only FACT (a .rows) e (w .fact) m p) in
             let h = w .factHolds (λ z. omega (arith, z, counted FACT (a .rows) e m p)) in
@@ -176,7 +176,7 @@ module _ (s : List ℕ) (b : Bytes s) (a : Scan) (t : Scanned s a) where
   ds64-row : (e : Entry) → List·Memᴰ e (a .rows) → e .name ≡ DS64 → (isWide form ≡ true) × (e .place ≡ 20)
   ds64-row e m p =
       let r = laid-lies laid m in
-      let c = ds64-first (a .head) ks (e .place - 8) (e .name) (ownField s e) (record { bytes = e .size }) (unfold ownField in r .sized) p in
+      let c = ds64-first (a .head) ks (e .place - 8) (e .name) (ownField s e) (row-size e) (unfold ownField in r .sized) p in
       (c .0, omega (arith, c .1, r .after))
 
   ds64-is : isWide form ≡ true → Ds64First (a .head .ds64) ks cs

@@ -4,7 +4,7 @@
 -- Assumes nothing.
 use mathlib.Core.Path.{_≡_, refl, sym, _∙_, ap}
 use mathlib.Core.Bool.{Bool, true, false}
-use mathlib.Core.List.{List, [], _∷_, _++_, List·Memᴰ·head, List·Memᴰ·tail}
+use mathlib.Core.List.{List, [], _∷_, _++_, List·Memᴰ, List·Memᴰ·head, List·Memᴰ·tail, List·Memᴰ·not-nil}
 use Prim.Native.Nat.{ℕ, zero, suc, _+_, _≤_}
 use native.Mathlib.Omega.{arith}
 use lib.ListN.{length}
@@ -12,21 +12,24 @@ use lib.Dec.{eqb}
 use borrow.Author.Tests.{eq-eqb, ne-eqb, eqb-true, eqb-false}
 use Rattle.le.specs.Number.{number}
 use Rattle.chunk.specs.declared.Entry.{Entry}
+use Rattle.chunk.specs.declared.Source.{Source}
+use Rattle.chunk.specs.declared.Source.the-variants.{Own}
 use Rattle.chunk.specs.declared.TrueSize.{TrueSize}
 use Rattle.chunk.specs.declared.Refusal.the-variants.{UnknownSize}
 use Rattle.chunk.specs.declared.Verdict.the-variants.{Accepted, Refused}
-use Rattle.chunk.specs.Refusals.{Answer, given}
+use Rattle.chunk.specs.Refusals.{Answer, refused, given}
 use Rattle.chunk.specs.Fields.{ONES}
-use Rattle.chunk.specs.Walks.{Rule, past, Walked, walk, ownSize}
+use Rattle.chunk.specs.Walks.{Rule, past, Walked, walk, fieldSize, ownSize}
 use Rattle.chunk.proofs.Checks.{pick-true, pick-false}
-use Rattle.chunk.proofs.Laid.{Row, Laid, done, next, row-fits, step-end, step-row, step-refused, walk-stop, walk-chunk, own-ones, own-given}
+use Rattle.chunk.proofs.Laid.{Row, Laid, done, next, row-fits, step-end, step-row, step-refused, walk-stop, walk-chunk, own-ones, own-given, own-only, walk-sources}
+use Rattle.form.specs.Forms.{openFor32}
 use Rattle.form.proofs.Heads.{opened-32}
 use Rattle.truesize.specs.Sizes.{trueSize, entriesOf}
-use Rattle.truesize.proofs.Sizes.{own-true}
+use Rattle.truesize.proofs.Sizes.{own-is}
 use Rattle.chunk.specs.Tables.{LIMIT}
 use Rattle.wave.specs.Scans.{Scan, scan, walkFrom, walk32}
 use Rattle.wave.specs.Tables.{ownField}
-use Rattle.wave.specs.Demand3.{ahead, stop, Sized, FirstHalf}
+use Rattle.wave.specs.Demand3.{ahead, stop, SaysOwn, Sized, FirstHalf}
 use Rattle.wave.proofs.Scanned.{scan-scanned}
 
 -- ---- the rows ahead, and the end
@@ -57,7 +60,7 @@ shown-sized s e es h =
 
 -- a rule by which a field that is not all ones is the size
 Plain : Rule → Type 0
-Plain rule = (at name own : ℕ) (t : TrueSize) → rule at name own ≡ given t → (own ≡ ONES → ⊥) → t .bytes ≡ own
+Plain rule = (at name own : ℕ) (t : TrueSize) → rule at name own ≡ given t → (own ≡ ONES → ⊥) → t ≡ fieldSize own
 
 own-at : {rule : Rule} {s : List ℕ} {at : ℕ} {e : Entry} → Row rule s at e → ownField s e ≡ number 4 (at + 4) s
 unfolding ownField
@@ -80,7 +83,7 @@ row-own rule plain s at e r h =
     record {
       place = r .place;
       named = r .named;
-      sized = own-given at (e .name) own k ∙ ap (λ (n : ℕ). given (record { bytes = n })) (sym (plain at (e .name) own _ (r .sized) k));
+      sized = own-given at (e .name) own k ∙ ap given (sym (plain at (e .name) own _ (r .sized) k));
       ends = r .ends;
     }
 
@@ -121,7 +124,7 @@ shown-whole s (x ∷ xs) h =
 
 true-plain : (s : List ℕ) (a : Scan) → Plain (trueSize (a .head) (entriesOf (a .head) s))
 unfolding Plain
-true-plain s a at name own t e = own-true (a .head) (entriesOf (a .head) s) at name own t e
+true-plain s a at name own t e = own-is (a .head) (entriesOf (a .head) s) at name own t e
 
 scan-walk : (s : List ℕ) (a : Scan) → scan s ≡ given a → walk32 s ≡ shown s (a .rows)
 unfolding walk32 walkFrom
@@ -129,6 +132,16 @@ scan-walk s a e =
     let l = scan-scanned s a e .listed in
     ap (λ (x : Answer ℕ). walkFrom x s) (opened-32 s (a .head) (l .opened))
     ∙ laid-own (trueSize (a .head) (entriesOf (a .head) s)) (true-plain s a) LIMIT (l .laid) (l .few)
+
+-- the 32-bit walk says own field of every file
+pub says-own : (s : List ℕ) → SaysOwn s
+unfolding SaysOwn walk32 walkFrom
+says-own s e m = go (openFor32 s) m
+  where
+    go : (x : Answer ℕ) → List·Memᴰ e (walkFrom x s .rows) → e .source ≡ Own
+    go (refused r) k = absurd (List·Memᴰ·not-nil k)
+    go (given at) k =
+        walk-sources ownSize (λ (x : Source). x ≡ Own) (λ at name own t p. ap (λ (x : TrueSize). x .source) (own-only at name own t p)) s LIMIT at e k
 
 -- Demand 3, first half.
 pub first-half : (s : List ℕ) (a : Scan) → scan s ≡ given a → FirstHalf s a

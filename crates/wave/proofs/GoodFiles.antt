@@ -27,15 +27,16 @@ use Rattle.form.specs.declared.Form.the-variants.{Riff, Rf64, Bw64}
 use Rattle.form.specs.declared.Ds64.{Ds64}
 use Rattle.form.specs.Forms.{nameOf, isWide, ds64Good, ds64At, noDs64, headAs, wideAs, formSize}
 use Rattle.form.proofs.Heads.{Opened, rules-ds64, head-wide, form-own, form-ones}
+use Rattle.truesize.proofs.Told.{told-size}
 use Rattle.truesize.specs.Sizes.{Ds64Entry, entriesIn, entriesOf, strayDs64, trueSize}
 use Rattle.truesize.proofs.Sizes.{other-placed, first-placed}
 use Rattle.fmt.specs.declared.Format.{Format}
 use Rattle.fmt.specs.Formats.{formatIn}
 use Rattle.wave.specs.Scans.{payload, wholeBlocks, judged, Scan, scan}
-use Rattle.wave.specs.Grammar.{Chunk, chunkBytes, allBytes, fileBytes, ds64Bytes, rowAt, rowsAt, Without, Ds64First, GoodFile}
+use Rattle.wave.specs.Grammar.{Chunk, chunkBytes, allBytes, fileBytes, ds64Bytes, sizeOf, rowAt, rowsAt, Without, Ds64First, GoodFile}
 use Rattle.listing.proofs.Checked.{Chunked}
 use Rattle.wave.proofs.Scanned.{scanned-scan}
-use Rattle.wave.proofs.Ds64Sizes.{known, good-size, ds64-length, ds64-read}
+use Rattle.wave.proofs.Ds64Bytes.{ds64-length, ds64-read}
 
 -- ---- a chunk
 
@@ -87,7 +88,7 @@ record Fits (c : Chunk) : Type 0 where
 
 -- a chunk's row, and rows laid after it
 laid-next : {rule : Rule} {s : List ℕ} {at : ℕ} {c : Chunk} {rest : List ℕ} {rows : List Entry} → Fits c → Stands s at c rest
-    → rule at (c .name) (c .field) ≡ known (length (c .payload)) → Laid rule s (at + length (chunkBytes c)) rows
+    → rule at (c .name) (c .field) ≡ given (sizeOf c) → Laid rule s (at + length (chunkBytes c)) rows
     → Laid rule s at (rowAt at c ∷ rows)
 unfolding rowAt past
 laid-next {rule} {s} {at} {c} {rest} {rows} f w h l =
@@ -98,7 +99,7 @@ laid-next {rule} {s} {at} {c} {rest} {rows} f w h l =
 
 laid-all : (rule : Rule) (s : List ℕ) (at : ℕ) (cs : List Chunk) → at ≤ length s → drop at s ≡ allBytes cs
     → ((c : Chunk) → List·Memᴰ c cs → Fits c)
-    → ((p : ℕ) (c : Chunk) → List·Memᴰ c cs → rule p (c .name) (c .field) ≡ known (length (c .payload)))
+    → ((p : ℕ) (c : Chunk) → List·Memᴰ c cs → rule p (c .name) (c .field) ≡ given (sizeOf c))
     → Laid rule s at (rowsAt at cs)
 unfolding allBytes rowsAt
 laid-all rule s at [] k e f g =
@@ -236,7 +237,7 @@ module _ (s : List ℕ) (a : Scan) (g : GoodFile s a) where
     ds64-good =
         let d : Ds64 = a .head .ds64 in
         let st = first-stands in
-        let size : number 4 16 s ≡ length (f .first .payload) = st .owned ∙ g .good (f .first) first-mem .own (f .sized) in
+        let size : number 4 16 s ≡ length (f .first .payload) = st .owned ∙ g .good (f .first) first-mem .sized .plain (f .sized) .0 in
         let count : number 4 44 s ≡ length (g .entries) = ap (λ (x : Ds64). x .count) (numbers-are .0) ∙ f .counts in
         let long : 28 + 12 * length (g .entries) ≤ length (f .first .payload) =
         omega (arith, ap length (f .payload), length-append (ds64Bytes d (g .entries)) (f .more), ds64-length d (g .entries)) in
@@ -305,10 +306,10 @@ module _ (s : List ℕ) (a : Scan) (g : GoodFile s a) where
       go (inr w) = numbers-are w .1
 
   size-known : (p : ℕ) (c : Chunk) → List·Memᴰ c (g .chunks) → strayDs64 form p (c .name) ≡ false
-      → rule p (c .name) (c .field) ≡ known (length (c .payload))
+      → rule p (c .name) (c .field) ≡ given (sizeOf c)
   size-known p c m h =
       ap (λ (ks : List Ds64Entry). trueSize (a .head) ks p (c .name) (c .field)) entries-are
-      ∙ good-size (a .head) (g .entries) p c h (g .good c m)
+      ∙ told-size (a .head) (g .entries) p (c .name) (c .field) (sizeOf c) h (g .good c m .sized)
 
   laid : Laid rule s 12 (a .rows)
   unfolding rowsAt Without

@@ -1,5 +1,5 @@
 pub mod AcceptsExactly
-pub mod Ds64Sizes
+pub mod Ds64Bytes
 pub mod Ends
 pub mod FirstHalf
 pub mod GoodFiles

@@ -3,7 +3,7 @@
 -- end.
 -- Assumes nothing.
 use mathlib.Core.Path.{_≡_, refl, sym, ap, ap₂, _∙_, subst}
-use mathlib.Core.Bool.{Bool, true, false, not}
+use mathlib.Core.Bool.{true, false, not}
 use mathlib.Core.List.{List, [], _∷_}
 use Prim.Native.Nat.{ℕ, suc, _+_, _-_, _*_, _%_, _≤_, _<_}
 use native.Mathlib.Nat.{zero-add, add-zero}
@@ -11,12 +11,12 @@ use native.Mathlib.Omega.{arith}
 use lib.ListN.{length, set, length-set}
 use lib.Seq.{sets, length-sets}
 use lib.Dec.{eqb}
-use borrow.Author.Tests.{eq-eqb, eqb-true, eqb-false}
+use borrow.Author.Tests.{eq-eqb}
 use Rattle.le.specs.Number.{number}
 use Rattle.chunk.specs.declared.Entry.{Entry}
 use Rattle.chunk.specs.declared.Header.{Header}
 use Rattle.chunk.specs.declared.TrueSize.{TrueSize}
-use Rattle.chunk.specs.declared.Refusal.the-variants.{CutHeader, TooMany, UnknownSize, BadDs64}
+use Rattle.chunk.specs.declared.Refusal.the-variants.{CutHeader, TooMany, BadDs64}
 use Rattle.chunk.specs.declared.Verdict.{Verdict}
 use Rattle.chunk.specs.declared.Verdict.the-variants.{Accepted, Refused}
 use Rattle.chunk.specs.declared.Step.{Step}
@@ -24,11 +24,11 @@ use Rattle.chunk.specs.declared.Step.the-variants.{Chunk, Last, Cut, Stop}
 use Rattle.chunk.specs.Refusals.{given}
 use Rattle.chunk.specs.Fields.{ONES}
 use Rattle.chunk.specs.Tables.{rowWords, setRow, tabled, LIMIT, WORDS}
-use Rattle.chunk.specs.Walks.{Rule, Walked, entryOf, past, stepAt, walk, ownSize}
+use Rattle.chunk.specs.Walks.{Rule, Walked, entryOf, past, stepAt, walk, fieldSize, ownSize}
 use Rattle.chunk.specs.Walks as walks
 use Rattle.chunk.specs.Contracts.{HeaderAt, Due, stepOn, walkAfter, full}
-use Rattle.chunk.proofs.Checks.{given-inj, refused-given, check-given, pick-true, true-false}
-use Rattle.chunk.proofs.Laid.{row-size, Laid, next, row-fits, step-end, walk-stop, walk-laid, laid-walk, Lies, laid-lies, Shown, relaid, own-ones, own-given}
+use Rattle.chunk.proofs.Checks.{check-given, pick-true, true-false}
+use Rattle.chunk.proofs.Laid.{row-size, Laid, next, row-fits, step-end, walk-stop, walk-laid, laid-walk, Lies, laid-lies, Shown, relaid, own-given, own-only}
 use Rattle.chunk.proofs.Turns.{turn, turn-due, walk-full, step-cut}
 use Rattle.chunk.proofs.Filled.{filled, filled-tabled, row-length}
 use Rattle.form.specs.declared.Form.{Form}
@@ -36,7 +36,7 @@ use Rattle.form.specs.declared.Form.the-variants.{Riff, Rf64, Bw64}
 use Rattle.form.specs.declared.Head.{Head}
 use Rattle.form.specs.Forms.{isWide}
 use Rattle.truesize.specs.Sizes.{trueSize, onesSize, strayDs64, entriesOf}
-use Rattle.truesize.proofs.Sizes.{own-true, riff-own}
+use Rattle.truesize.proofs.Sizes.{own-is, riff-own}
 use Rattle.listing.specs.Listings.{headers}
 use Rattle.listing.specs.Contracts.{rule}
 use Rattle.wave.specs.Contracts.{rowsFrom, WalkStored, Finishes, Rowed, WideRows, Fills}
@@ -235,7 +235,7 @@ pub record Ahead (rule : Rule) (s w₀ w : List ℕ) (stop place row : ℕ) : Ty
   pub ends : place + entry .size + entry .size % 2 ≤ length s
   pub holds : row + 4 ≤ length w
   pub after : (name : ℕ) (size : TrueSize) (x : Entry) (v : List ℕ) (to : ℕ) → name ≡ number 4 (place - 8) s
-      → size .bytes ≡ entry .size → x ≡ entryOf place name size → v ≡ sets w row (rowWords x)
+      → size ≡ row-size entry → x ≡ entryOf place name size → v ≡ sets w row (rowWords x)
       → to ≡ place + size .bytes + size .bytes % 2 + 8 → Filling rule s w₀ v stop to (row + 4)
 
 pub filling-next : (rule : Rule) (s w₀ w : List ℕ) (stop place row : ℕ) → Filling rule s w₀ w stop place row → row < stop
@@ -243,8 +243,8 @@ pub filling-next : (rule : Rule) (s w₀ w : List ℕ) (stop place row : ℕ) �
 unfolding rowsFrom past
 filling-next rule s w₀ w stop place row f h = go (f .left) (f .laid) (f .stops) (f .words)
   where
-    same : (x : Entry) (name : ℕ) (size : TrueSize) → name ≡ x .name → size .bytes ≡ x .size → x .place ≡ place → entryOf place name size ≡ x
-    same x name size n z p = λ i. record { name = n i; place = sym p i; size = z i }
+    same : (x : Entry) (name : ℕ) (size : TrueSize) → name ≡ x .name → size ≡ row-size x → x .place ≡ place → entryOf place name size ≡ x
+    same x name size n z p = λ i. entryOf (sym p i) (n i) (z i)
 
     go : (left : List Entry) → Laid rule s (place - 8) left → row + 4 * length left ≡ stop
         → rowsFrom w row left ≡ rowsFrom w₀ 1 (walk rule s LIMIT 12 .rows) → Ahead rule s w₀ w stop place row
@@ -259,7 +259,7 @@ filling-next rule s w₀ w stop place row f h = go (f .left) (f .laid) (f .stops
           ends = omega (arith, r .ends, p);
           holds = omega (arith, f .same, f .room);
           after = λ name size y v to nm sz is st at.
-              let b : to - 8 ≡ past x = omega (arith, at, p, sz) in
+              let b : to - 8 ≡ past x = omega (arith, at, p, ap (λ (t : TrueSize). t .bytes) sz) in
               let here : y ≡ x = is ∙ same x name size (nm ∙ r .named) sz p in
               record {
                 left = xs;
@@ -285,23 +285,16 @@ filling-end rule s w₀ w stop place row f h = go (f .left) (f .stops) (f .words
 
 -- ---- the size of a row, from its header
 
-own-field : (at name own : ℕ) (t : TrueSize) → ownSize at name own ≡ given t → own ≡ t .bytes
-own-field at name own t e = go (eqb own ONES) refl
-  where
-    go : (b : Bool) → eqb own ONES ≡ b → own ≡ t .bytes
-    go true k = absurd (refused-given UnknownSize t (sym (own-ones at name own (eqb-true own ONES k)) ∙ e))
-    go false k = ap (λ (x : TrueSize). x .bytes) (given-inj _ t (sym (own-given at name own (eqb-false own ONES k)) ∙ e))
-
 -- in the 32-bit walk the field is the size
 pub own-size : (s : List ℕ) (place : ℕ) (x : Header) (t : TrueSize) → HeaderAt place s x
-    → ownSize (place - 8) (number 4 (place - 8) s) (number 4 (place - 4) s) ≡ given t → x .field ≡ t .bytes
-own-size s place x t a e = a .field ∙ own-field (place - 8) (number 4 (place - 8) s) (number 4 (place - 4) s) t e
+    → ownSize (place - 8) (number 4 (place - 8) s) (number 4 (place - 4) s) ≡ given t → fieldSize (x .field) ≡ t
+own-size s place x t a e = ap fieldSize (a .field) ∙ sym (own-only (place - 8) (number 4 (place - 8) s) (number 4 (place - 4) s) t e)
 
 module _ (h : Head) (s : List ℕ) (place : ℕ) (x : Header) (t : TrueSize) (a : HeaderAt place s x)
     (e : rule h s (place - 8) (number 4 (place - 8) s) (number 4 (place - 4) s) ≡ given t) where
   -- in the scan too, where it is not all ones
-  pub true-size : (x .field ≡ ONES → ⊥) → x .field ≡ t .bytes
-  true-size n = a .field ∙ sym (own-true h (entriesOf h s) _ _ _ t e (λ q. n (a .field ∙ q)))
+  pub true-size : (x .field ≡ ONES → ⊥) → fieldSize (x .field) ≡ t
+  true-size n = ap fieldSize (a .field) ∙ sym (own-is h (entriesOf h s) _ _ _ t e (λ q. n (a .field ∙ q)))
 
   -- where it is all ones, ds64 knows the size
   pub ones-size : x .field ≡ ONES → onesSize (h .form) (h .ds64) (entriesOf h s) (x .name) ≡ given t
@@ -331,8 +324,8 @@ riff-headers h s w e =
         let at = x .place - 8 in
         let field = number 4 (x .place - 4) s in
         let k = riff-own h (entriesOf h s) at (x .name) field (row-size x) (y .sized) (riff (h .form) w) in
-        let t = own-true h (entriesOf h s) at (x .name) field (row-size x) (y .sized) k in
-        record { named = y .named; sized = own-given at (x .name) field k ∙ ap (λ (n : ℕ). given (record { bytes = n })) (sym t) }
+        let t = own-is h (entriesOf h s) at (x .name) field (row-size x) (y .sized) k in
+        record { named = y .named; sized = own-given at (x .name) field k ∙ ap given (sym t) }
 
 -- ---- the table of an accepted file
 

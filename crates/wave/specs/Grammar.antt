@@ -8,25 +8,31 @@ use mathlib.Core.List.{List, [], _∷_, _++_, List·Memᴰ}
 use lib.ListN.{length}
 use Rattle.le.specs.Number.{Bytes, bytes}
 use Rattle.chunk.specs.declared.Entry.{Entry}
+use Rattle.chunk.specs.declared.Source.{Source}
+use Rattle.chunk.specs.declared.TrueSize.{TrueSize}
 use Rattle.chunk.specs.Refusals.{given}
 use Rattle.chunk.specs.Names.{WAVE, DS64, FMT, DATA, FACT, BEXT, CHNA}
 use Rattle.chunk.specs.Fields.{ONES}
 use Rattle.chunk.specs.Tables.{count, find, LIMIT}
+use Rattle.chunk.specs.Walks.{entryOf}
 use Rattle.form.specs.declared.Form.{Form}
 use Rattle.form.specs.declared.Ds64.{Ds64}
 use Rattle.form.specs.Forms.{nameOf, isWide, noDs64, ENTRIES}
 use Rattle.truesize.specs.Sizes.{Ds64Entry}
+use Rattle.truesize.specs.Told.{Told}
 use Rattle.fmt.specs.Formats.{formatIn}
 use Rattle.wave.specs.Scans.{Scan, scan}
 
 -- ---- the bytes
 
--- "A chunk is a 4-byte name, a 32-bit size field, its payload, and one pad byte if the payload is odd."
+-- "A chunk is a 4-byte name, a 32-bit size field, its payload, and one pad byte if the payload is odd." None of its bytes
+-- says where its true size comes from: that is told by its field and by ds64.
 pub record Chunk : Type 0 where
   pub name : ℕ
   pub field : ℕ
   pub payload : List ℕ
   pub pad : List ℕ
+  pub source : Source
 
 unfoldable pub chunkBytes : Chunk → List ℕ
 chunkBytes c = bytes 4 (c .name) ++ (bytes 4 (c .field) ++ (c .payload ++ c .pad))
@@ -53,9 +59,13 @@ ds64Bytes d ks =
 
 -- ---- the table
 
--- "name, payload place and true size" of a chunk whose header stands at an offset
+-- the true size of a chunk, and where it comes from
+abbrev pub sizeOf : Chunk → TrueSize
+sizeOf c = record { bytes = length (c .payload); source = c .source }
+
+-- "name, payload place and true size" of a chunk whose header stands at an offset, and where the size comes from
 unfoldable pub rowAt : ℕ → Chunk → Entry
-rowAt at c = record { name = c .name; place = at + 8; size = length (c .payload) }
+rowAt at c = entryOf (at + 8) (c .name) (sizeOf c)
 
 -- "of each chunk, in file order", the first header being at an offset
 unfoldable pub rowsAt : ℕ → List Chunk → List Entry
@@ -88,13 +98,6 @@ pub record Ds64First (d : Ds64) (ks : List Ds64Entry) (cs : List Chunk) : Type 0
   pub fits : (d .«form_size» < 256 ^ 8) × (d .«data_size» < 256 ^ 8) × (d .third < 256 ^ 8)
   pub entriesFit : (k : Ds64Entry) → List·Memᴰ k ks → (k .name < 256 ^ 4) × (k .size < 256 ^ 8)
 
--- "the first entry of that name" has this size
-pub record FirstEntry (name size : ℕ) (ks : List Ds64Entry) : Type 0 where
-  pub before : List Ds64Entry
-  pub after : List Ds64Entry
-  pub is : ks ≡ before ++ record { name = name; size = size } ∷ after
-  pub none : (k : Ds64Entry) → List·Memᴰ k before → k .name ≡ name → ⊥
-
 -- ---- a chunk
 
 -- a chunk of a form whose ds64 holds these numbers and entries
@@ -104,13 +107,8 @@ pub record GoodChunk (form : Form) (d : Ds64) (ks : List Ds64Entry) (c : Chunk) 
   pub fieldFits : c .field < 256 ^ 4
   -- "one pad byte if the payload is odd"; it "may hold anything when read"
   pub padded : length (c .pad) ≡ length (c .payload) % 2
-  -- "A size field that is not all ones is the true size", whatever ds64 says of it
-  pub own : (c .field ≡ ONES → ⊥) → c .field ≡ length (c .payload)
-  -- "In the 64-bit forms an all-ones" field means "on data, the ds64 data size; on another chunk, the first entry of that
-  -- name"
-  pub wide : c .field ≡ ONES → isWide form ≡ true
-  pub audio : c .field ≡ ONES → c .name ≡ DATA → length (c .payload) ≡ d .«data_size»
-  pub other : c .field ≡ ONES → (c .name ≡ DATA → ⊥) → FirstEntry (c .name) (length (c .payload)) ks
+  -- its size and the size's source are what its field and ds64 tell (truesize/specs/Told)
+  pub sized : Told form d ks (c .name) (c .field) (sizeOf c)
   -- "fact holds at least 4 bytes"
   pub fact : c .name ≡ FACT → 4 ≤ length (c .payload)
 
@@ -134,7 +132,8 @@ pub record GoodFile (s : List ℕ) (a : Scan) : Type 0 where
   -- each chunk is good, and "a 65th header" is refused
   pub good : (c : Chunk) → List·Memᴰ c chunks → GoodChunk (a .head .form) (a .head .ds64) entries c
   pub most : length chunks ≤ LIMIT
-  -- "The scan's table has name, payload place and true size of each chunk, in file order."
+  -- "The scan's table has name, payload place and true size of each chunk, in file order"; "Every table entry should say"
+  -- where its size came from.
   pub rows : a .rows ≡ rowsAt 12 chunks
   -- "exactly one fmt and one data, fmt first, and at most one each of bext, chna and fact"
   pub oneFmt : count FMT (a .rows) ≡ 1

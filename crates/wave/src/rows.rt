@@ -88,9 +88,9 @@ fn fill_own(file: &[u8], stop: usize, words: &mut [u64])
     let mut row: usize = 1;
     while row < stop {
         let h = chunk::steps::header(file, place);
-        let size = TrueSize { bytes: h.field };
+        let size = TrueSize::own(h.field);
         chunk::put_row(words, row, chunk::steps::entry(place, h.name, size));
-        place = chunk::steps::past(place, h.field);
+        place = chunk::steps::past(place, size.bytes);
         row += 4;
     }
 }
@@ -104,7 +104,7 @@ fn fill_wide(file: &[u8], head: Head, stop: usize, words: &mut [u64])
     let mut row: usize = 1;
     while row < stop {
         let h = chunk::steps::header(file, place);
-        let mut size = TrueSize { bytes: h.field };
+        let mut size = TrueSize::own(h.field);
         if h.field == chunk::ONES {
             size = truesize::known(file, head, h.name);
         }

@@ -11,13 +11,14 @@ use lib.Dec.{eqb, lit<}
 use borrow.Author.Tests.{eq-eqb}
 use Rattle.le.specs.Number.{field}
 use Rattle.chunk.specs.declared.Entry.{Entry}
+use Rattle.chunk.specs.declared.Source.the-variants.{Own}
 use Rattle.chunk.specs.declared.Refusal.the-variants.{RaggedAudio}
 use Rattle.chunk.specs.declared.Verdict.the-variants.{Accepted}
 use Rattle.chunk.specs.Refusals.{Answer, given}
 use Rattle.chunk.specs.Names.{FMT, DATA, BEXT, CHNA, DS64}
 use Rattle.chunk.specs.Fields.{ONES}
 use Rattle.chunk.specs.Tables.{LIMIT, find}
-use Rattle.chunk.specs.Walks.{Rule, ownSize}
+use Rattle.chunk.specs.Walks.{Rule, fieldSize, ownSize}
 use Rattle.chunk.proofs.Checks.{check-true, andThen-at}
 use Rattle.chunk.proofs.Laid.{Laid, done, laid-walk, own-given}
 use Rattle.form.specs.declared.Form.{Form}
@@ -41,7 +42,7 @@ use Rattle.samples.proofs.Counts.{samples-none, samples-given}
 use Rattle.file_parts.specs.Parts.{chunkWith, chunkBytes, optional, ownField, chunkSize, optionalSize}
 use Rattle.file.specs.Files.{bodyBytes, formSizeFor, fileBytes}
 use Rattle.file.specs.Contracts.{fileSize}
-use Rattle.writer.specs.WayBack.{entry, firstName, tableFor}
+use Rattle.writer.specs.WayBack.{entry, dataSource, firstName, tableFor}
 use Rattle.file.proofs.Inputs.{chna-short}
 use Rattle.file.proofs.Outs.{Fine}
 use Rattle.chna.proofs.Pads.{zeroed-length}
@@ -53,9 +54,9 @@ use Rattle.writer.proofs.Tables as tables
 -- ---- what a rule of sizes has to know of a written file
 
 pub record Knows (form : Form) (n : ℕ) (rule : Rule) : Type 0 where
-  pub first : rule 12 (firstName form) LEAST ≡ given (record { bytes = LEAST })
-  pub plain : (at name own : ℕ) → (name ≡ DS64 → ⊥) → (own ≡ ONES → ⊥) → rule at name own ≡ given (record { bytes = own })
-  pub audio : (at : ℕ) → rule at DATA (ownField form n) ≡ given (record { bytes = n })
+  pub first : rule 12 (firstName form) LEAST ≡ given (fieldSize LEAST)
+  pub plain : (at name own : ℕ) → (name ≡ DS64 → ⊥) → (own ≡ ONES → ⊥) → rule at name own ≡ given (fieldSize own)
+  pub audio : (at : ℕ) → rule at DATA (ownField form n) ≡ given (record { bytes = n; source = dataSource form })
 
 module _ (form : Form) (f : Format) (b c a : List ℕ) (w : Fine form f b c a) (small : length (fileBytes form f b c a) < 256 ^ 8) where
   abbrev pub s : List ℕ
@@ -136,15 +137,15 @@ module _ (form : Form) (f : Format) (b c a : List ℕ) (w : Fine form f b c a) (
   unfolding tableFor chunkSize
   laid rule k =
       let small-c : length c ≤ 41003 = chna-short f b c a (w .input) in
-      laid-next rule s 12 (firstName form) LEAST _ _ _ 20 LEAST (opening-is .first) refl
+      laid-next rule s 12 (firstName form) LEAST _ _ _ Own 20 LEAST (opening-is .first) refl
       (first-length form (formSizeFor form f b c a) (length a) (length a / f .block)) (k .first)
-      (laid-next rule s 48 FMT (length (formatBytes f)) _ _ _ 56 16 fmt-stands refl sixteen
+      (laid-next rule s 48 FMT (length (formatBytes f)) _ _ _ Own 56 16 fmt-stands refl sixteen
       (ap (rule 48 FMT) sixteen ∙ k .plain 48 FMT 16 (λ e. omega arith) (λ e. omega arith))
       (laid-optional rule s 72 BEXT b _ _ 80 (length b) (lit< tt) (omega (arith, w .bext-fits)) bext-next refl refl
       (k .plain 72 BEXT (length b) (λ e. omega arith) (λ e. omega (arith, w .bext-fits)))
       (laid-optional rule s chna-at CHNA (padsZeroed c) _ _ (80 + optionalSize (length b)) (length c) (lit< tt) chna-bound chna-next
       (omega arith) (zeroed-length c) (k .plain chna-at CHNA (length c) (λ e. omega arith) (λ e. omega arith))
-      (laid-next rule s data-at DATA (ownField form (length a)) a [] [] (80 + optionalSize (length b) + optionalSize (length c)) (length a)
+      (laid-next rule s data-at DATA (ownField form (length a)) a [] [] (dataSource form) (80 + optionalSize (length b) + optionalSize (length c)) (length a)
       data-stands (omega arith) refl (k .audio data-at) (done end)))))
 
   -- ---- the scan
@@ -174,7 +175,7 @@ module _ (form : Form) (f : Format) (b c a : List ℕ) (w : Fine form f b c a) (
         audio = λ at. sized-data form s (entriesOf head s) (length a) at audio-fits (λ wide. numbers-are wide .audio-is);
       }
 
-  pub facts-are : tables.Facts table (80 + optionalSize (length b) + optionalSize (length c)) (length a)
+  pub facts-are : tables.Facts form table (80 + optionalSize (length b) + optionalSize (length c)) (length a)
   facts-are = tables.facts form (length b) (length c) (length a)
 
   pub fmt-payload : payload (find FMT table) s ≡ formatBytes f
@@ -235,14 +236,15 @@ module _ (form : Form) (f : Format) (b c a : List ℕ) (w : Fine form f b c a) (
   no-samples = samples-given s scan-is scan-accepts ∙ samples-none scan-is s (facts-are .no-fact)
 
   own-knows : form ≡ Riff → Knows form (length a) ownSize
-  unfolding ownField
+  unfolding ownField dataSource
   own-knows r =
       record {
         first = own-given 12 (firstName form) LEAST (λ e. omega arith);
         plain = λ at name own h k. own-given at name own k;
         audio = λ at.
             ap (ownSize at DATA) (ap (λ (x : Form). ownField x (length a)) r)
-            ∙ own-given at DATA (length a) (λ e. omega (arith, audio-fits r));
+            ∙ own-given at DATA (length a) (λ e. omega (arith, audio-fits r))
+            ∙ ap (λ (x : Form). given (record { bytes = length a; source = dataSource x })) (sym r);
       }
 
   pub walk-whole : form ≡ Riff → walk32 s ≡ record { rows = table; end = Accepted }

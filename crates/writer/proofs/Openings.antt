@@ -12,7 +12,9 @@ use Rattle.le.specs.Number.{bytes, number}
 use Rattle.le.proofs.Laws.{bytes-length, number-at, drop-past}
 use Rattle.chunk.specs.Names.{WAVE, DS64, JUNK, DATA}
 use Rattle.chunk.specs.Fields.{ONES}
+use Rattle.chunk.specs.declared.Source.the-variants.{DataSize}
 use Rattle.chunk.specs.Refusals.{given}
+use Rattle.chunk.specs.Walks.{fieldSize}
 use Rattle.chunk.proofs.Checks.{true-false}
 use Rattle.form.specs.declared.Form.{Form}
 use Rattle.form.specs.declared.Form.the-variants.{Riff, Rf64, Bw64}
@@ -23,7 +25,7 @@ use Rattle.form.proofs.Opens.{riff-finished}
 use Rattle.truesize.specs.Sizes.{Ds64Entry, trueSize}
 use Rattle.truesize.proofs.Sizes.{true-own, true-ds64, true-data}
 use Rattle.file_parts.specs.Parts.{chunkWith, chunkBytes, firstChunk, ownField, openingBytes, chunkSize}
-use Rattle.writer.specs.WayBack.{firstName}
+use Rattle.writer.specs.WayBack.{dataSource, firstName}
 use Rattle.file_parts.proofs.Lengths.{opening-length}
 use Rattle.writer.proofs.Places.{Stands, stands}
 
@@ -189,15 +191,15 @@ module _ (size audio frames : ℕ) (s body : List ℕ) (whole : 8 + size ≡ len
 
 -- ---- the sizes that the scan knows
 
-pub sized-first : (form : Form) (s : List ℕ) (ks : List Ds64Entry) → trueSize (headFor form s) ks 12 (firstName form) LEAST ≡ given (record { bytes = LEAST })
+pub sized-first : (form : Form) (s : List ℕ) (ks : List Ds64Entry) → trueSize (headFor form s) ks 12 (firstName form) LEAST ≡ given (fieldSize LEAST)
 unfolding firstName isWide
 sized-first Riff s ks = true-own (headFor Riff s) ks 12 JUNK LEAST (λ e. omega arith) (λ e. omega arith)
 sized-first Rf64 s ks = true-ds64 (headFor Rf64 s) ks LEAST refl (λ e. omega arith)
 sized-first Bw64 s ks = true-ds64 (headFor Bw64 s) ks LEAST refl (λ e. omega arith)
 
 pub sized-data : (form : Form) (s : List ℕ) (ks : List Ds64Entry) (n at : ℕ) → (form ≡ Riff → n ≤ 4294967294)
-    → (isWide form ≡ true → number 8 28 s ≡ n) → trueSize (headFor form s) ks at DATA (ownField form n) ≡ given (record { bytes = n })
-unfolding ownField isWide ds64At
+    → (isWide form ≡ true → number 8 28 s ≡ n) → trueSize (headFor form s) ks at DATA (ownField form n) ≡ given (record { bytes = n; source = dataSource form })
+unfolding ownField isWide ds64At dataSource
 sized-data Riff s ks n at h k = let l = h refl in true-own (headFor Riff s) ks at DATA n (λ e. omega arith) (λ e. omega arith)
-sized-data Rf64 s ks n at h k = true-data (headFor Rf64 s) ks at refl ∙ ap (λ (m : ℕ). given (record { bytes = m })) (k refl)
-sized-data Bw64 s ks n at h k = true-data (headFor Bw64 s) ks at refl ∙ ap (λ (m : ℕ). given (record { bytes = m })) (k refl)
+sized-data Rf64 s ks n at h k = true-data (headFor Rf64 s) ks at refl ∙ ap (λ (m : ℕ). given (record { bytes = m; source = DataSize })) (k refl)
+sized-data Bw64 s ks n at h k = true-data (headFor Bw64 s) ks at refl ∙ ap (λ (m : ℕ). given (record { bytes = m; source = DataSize })) (k refl)

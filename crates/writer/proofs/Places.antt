@@ -13,8 +13,10 @@ use borrow.Author.Tests.{eq-eqb, ne-eqb, eqb-true, eqb-false}
 use Rattle.le.specs.Number.{bytes, field, number}
 use Rattle.le.proofs.Laws.{bytes-length, number-at, drop-past, field-at}
 use Rattle.chunk.specs.declared.Entry.{Entry}
+use Rattle.chunk.specs.declared.Source.{Source}
+use Rattle.chunk.specs.declared.Source.the-variants.{Own}
 use Rattle.chunk.specs.Refusals.{given}
-use Rattle.chunk.specs.Walks.{Rule, past}
+use Rattle.chunk.specs.Walks.{Rule, fieldSize, past}
 use Rattle.chunk.proofs.Checks.{pick-true, pick-false}
 use Rattle.chunk.proofs.Laid.{Row, Laid, next}
 use Rattle.file_parts.specs.Parts.{padOf, chunkWith, chunkBytes, optional, chunkSize, optionalSize}
@@ -51,10 +53,10 @@ stands s at name own p rest n o e =
       next = drop-past (chunkSize (length p)) at s (chunkWith name own p) rest (chunk-length name own p) e;
     }
 
-row-of : {rule : Rule} {s : List ℕ} {at name own n : ℕ} {p rest : List ℕ} → Stands s at name own p rest → length p ≡ n
-    → rule at name own ≡ given (record { bytes = n }) → Row rule s at (entry name (at + 8) n)
+row-of : {rule : Rule} {s : List ℕ} {at name own n : ℕ} {x : Source} {p rest : List ℕ} → Stands s at name own p rest → length p ≡ n
+    → rule at name own ≡ given (record { bytes = n; source = x }) → Row rule s at (entry x name (at + 8) n)
 unfolding entry past chunkSize
-row-of {rule} {s} {at} {name} {own} {n} {p} {rest} w q h =
+row-of {rule} {s} {at} {name} {own} {n} {x} {p} {rest} w q h =
     record {
       place = refl;
       named = w .named;
@@ -62,17 +64,17 @@ row-of {rule} {s} {at} {name} {own} {n} {p} {rest} w q h =
       ends = subst (λ (k : ℕ). at + 8 + k + k % 2 ≤ length s) q (omega (arith, w .ends));
     }
 
-past-entry : (name at n : ℕ) → past (entry name (at + 8) n) ≡ at + chunkSize n
+past-entry : (x : Source) (name at n : ℕ) → past (entry x name (at + 8) n) ≡ at + chunkSize n
 unfolding entry past chunkSize
-past-entry name at n = omega arith
+past-entry x name at n = omega arith
 
 -- a chunk of this size, and the rows after it
-pub laid-next : (rule : Rule) (s : List ℕ) (at name own : ℕ) (p rest : List ℕ) (rows : List Entry) (place n : ℕ)
-    → Stands s at name own p rest → place ≡ at + 8 → length p ≡ n → rule at name own ≡ given (record { bytes = n }) → Laid rule s (at + chunkSize n) rows
-    → Laid rule s at (entry name place n ∷ rows)
-laid-next rule s at name own p rest rows place n w e q h l =
-    subst (λ (k : ℕ). Laid rule s at (entry name k n ∷ rows)) (sym e)
-    (next (row-of w q h) (subst (λ (k : ℕ). Laid rule s k rows) (sym (past-entry name at n)) l))
+pub laid-next : (rule : Rule) (s : List ℕ) (at name own : ℕ) (p rest : List ℕ) (rows : List Entry) (x : Source) (place n : ℕ)
+    → Stands s at name own p rest → place ≡ at + 8 → length p ≡ n → rule at name own ≡ given (record { bytes = n; source = x })
+    → Laid rule s (at + chunkSize n) rows → Laid rule s at (entry x name place n ∷ rows)
+laid-next rule s at name own p rest rows x place n w e q h l =
+    subst (λ (k : ℕ). Laid rule s at (entry x name k n ∷ rows)) (sym e)
+    (next (row-of w q h) (subst (λ (k : ℕ). Laid rule s k rows) (sym (past-entry x name at n)) l))
 
 -- ---- a chunk that may be absent
 
@@ -80,7 +82,7 @@ row-none : (name at n : ℕ) → n ≡ 0 → rowFor name at n ≡ []
 unfolding rowFor
 row-none name at n e = pick-true (eqb n 0) _ _ (eq-eqb n 0 e)
 
-row-some : (name at n : ℕ) → (n ≡ 0 → ⊥) → rowFor name at n ≡ entry name at n ∷ []
+row-some : (name at n : ℕ) → (n ≡ 0 → ⊥) → rowFor name at n ≡ entry Own name at n ∷ []
 unfolding rowFor
 row-some name at n h = pick-false (eqb n 0) _ _ (ne-eqb n 0 h)
 
@@ -97,7 +99,7 @@ optional-stands s at name p rest n o h e =
 
 pub laid-optional : (rule : Rule) (s : List ℕ) (at name : ℕ) (p rest : List ℕ) (rows : List Entry) (place n : ℕ)
     → name < 256 ^ 4 → length p < 256 ^ 4 → drop at s ≡ optional name p ++ rest → place ≡ at + 8 → length p ≡ n
-    → rule at name n ≡ given (record { bytes = n }) → Laid rule s (at + optionalSize n) rows → Laid rule s at (rowFor name place n ++ rows)
+    → rule at name n ≡ given (fieldSize n) → Laid rule s (at + optionalSize n) rows → Laid rule s at (rowFor name place n ++ rows)
 laid-optional rule s at name p rest rows place n x o e f q k l = go (eqb n 0) refl
   where
     go : (b : Bool) → eqb n 0 ≡ b → Laid rule s at (rowFor name place n ++ rows)
@@ -108,6 +110,6 @@ laid-optional rule s at name p rest rows place n x o e f q k l = go (eqb n 0) re
     go false t =
         let z : n ≡ 0 → ⊥ = eqb-false n 0 t in
         rw (row-some name place n z)
-        (laid-next rule s at name (length p) p rest rows place n
+        (laid-next rule s at name (length p) p rest rows Own place n
         (optional-stands s at name p rest x o (λ (u : length p ≡ 0). z (sym q ∙ u)) e) f q (ap (rule at name) q ∙ k)
         (subst (λ (m : ℕ). Laid rule s (at + m) rows) (size-some n z) l))

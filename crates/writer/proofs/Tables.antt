@@ -11,6 +11,7 @@ use lib.ListN.{length}
 use borrow.Author.Tests.{eq-eqb, ne-eqb}
 use Rattle.le.specs.Choice.{pick}
 use Rattle.chunk.specs.declared.Entry.{Entry}
+use Rattle.chunk.specs.declared.Source.the-variants.{Own}
 use Rattle.chunk.specs.Names.{FMT, DATA, FACT, BEXT, CHNA}
 use Rattle.chunk.specs.Tables.{count, find}
 use Rattle.form.specs.Forms.{LEAST}
@@ -18,18 +19,18 @@ use Rattle.form.specs.declared.Form.{Form}
 use Rattle.form.specs.declared.Form.the-variants.{Riff, Rf64, Bw64}
 use Rattle.listing.proofs.Checked.{Chunked}
 use Rattle.file_parts.specs.Parts.{optionalSize}
-use Rattle.writer.specs.WayBack.{entry, firstName, rowFor, tableFor}
+use Rattle.writer.specs.WayBack.{entry, dataSource, firstName, rowFor, tableFor}
 
 -- a table without bext where x, and without chna where y
 abbrev tableIf : Form → Bool → Bool → ℕ → ℕ → ℕ → ℕ → ℕ → ℕ → List Entry
 tableIf form x y p m q n r k =
-    entry (firstName form) 20 LEAST
-    ∷ (entry FMT 56 16
-    ∷ (pick x [] (entry BEXT p m ∷ []) ++ (pick y [] (entry CHNA q n ∷ []) ++ (entry DATA r k ∷ []))))
+    entry Own (firstName form) 20 LEAST
+    ∷ (entry Own FMT 56 16
+    ∷ (pick x [] (entry Own BEXT p m ∷ []) ++ (pick y [] (entry Own CHNA q n ∷ []) ++ (entry (dataSource form) DATA r k ∷ []))))
 
-pub record Facts (rows : List Entry) (r k : ℕ) : Type 0 where
-  pub fmt : find FMT rows ≡ entry FMT 56 16
-  pub audio : find DATA rows ≡ entry DATA r k
+pub record Facts (form : Form) (rows : List Entry) (r k : ℕ) : Type 0 where
+  pub fmt : find FMT rows ≡ entry Own FMT 56 16
+  pub audio : find DATA rows ≡ entry (dataSource form) DATA r k
   pub one-fmt : count FMT rows ≡ 1
   pub one-data : count DATA rows ≡ 1
   pub few-bext : count BEXT rows ≤ 1
@@ -37,13 +38,13 @@ pub record Facts (rows : List Entry) (r k : ℕ) : Type 0 where
   pub no-fact : count FACT rows ≡ 0
   pub few : length rows ≤ 5
 
-facts-of : {rows : List Entry} {r k : ℕ} → find FMT rows ≡ entry FMT 56 16 → find DATA rows ≡ entry DATA r k → count FMT rows ≡ 1
-    → count DATA rows ≡ 1 → count BEXT rows ≤ 1 → count CHNA rows ≤ 1 → count FACT rows ≡ 0 → length rows ≤ 5 → Facts rows r k
+facts-of : {form : Form} {rows : List Entry} {r k : ℕ} → find FMT rows ≡ entry Own FMT 56 16 → find DATA rows ≡ entry (dataSource form) DATA r k → count FMT rows ≡ 1
+    → count DATA rows ≡ 1 → count BEXT rows ≤ 1 → count CHNA rows ≤ 1 → count FACT rows ≡ 0 → length rows ≤ 5 → Facts form rows r k
 facts-of a b c d e f g h =
     record { fmt = a; audio = b; one-fmt = c; one-data = d; few-bext = e; few-chna = f; no-fact = g; few = h }
 
 module _ (p m q n r k : ℕ) where
-  facts-if : (form : Form) (x y : Bool) → Facts (tableIf form x y p m q n r k) r k
+  facts-if : (form : Form) (x y : Bool) → Facts form (tableIf form x y p m q n r k) r k
   unfolding firstName pick count find entry
   facts-if Riff true true = facts-of refl refl refl refl (lit≤ tt) (lit≤ tt) refl (lit≤ tt)
   facts-if Riff true false = facts-of refl refl refl refl (lit≤ tt) (lit≤ tt) refl (lit≤ tt)
@@ -58,7 +59,7 @@ module _ (p m q n r k : ℕ) where
   facts-if Bw64 false true = facts-of refl refl refl refl (lit≤ tt) (lit≤ tt) refl (lit≤ tt)
   facts-if Bw64 false false = facts-of refl refl refl refl (lit≤ tt) (lit≤ tt) refl (lit≤ tt)
 
-  bext-if : (form : Form) (y : Bool) → find BEXT (tableIf form false y p m q n r k) ≡ entry BEXT p m
+  bext-if : (form : Form) (y : Bool) → find BEXT (tableIf form false y p m q n r k) ≡ entry Own BEXT p m
   unfolding firstName pick find entry
   bext-if Riff y = refl
   bext-if Rf64 y = refl
@@ -73,7 +74,7 @@ module _ (p m q n r k : ℕ) where
   no-bext-if Bw64 true = refl
   no-bext-if Bw64 false = refl
 
-  chna-if : (form : Form) (x : Bool) → find CHNA (tableIf form x false p m q n r k) ≡ entry CHNA q n
+  chna-if : (form : Form) (x : Bool) → find CHNA (tableIf form x false p m q n r k) ≡ entry Own CHNA q n
   unfolding firstName pick find entry
   chna-if Riff true = refl
   chna-if Riff false = refl
@@ -94,11 +95,11 @@ module _ (p m q n r k : ℕ) where
 -- ---- the table of a written file
 
 module _ (form : Form) (b c a : ℕ) where
-  pub facts : Facts (tableFor form b c a) (80 + optionalSize b + optionalSize c) a
+  pub facts : Facts form (tableFor form b c a) (80 + optionalSize b + optionalSize c) a
   unfolding tableFor rowFor
   facts = facts-if 80 b (80 + optionalSize b) c (80 + optionalSize b + optionalSize c) a form (eqb b 0) (eqb c 0)
 
-  pub bext-found : (b ≡ 0 → ⊥) → find BEXT (tableFor form b c a) ≡ entry BEXT 80 b
+  pub bext-found : (b ≡ 0 → ⊥) → find BEXT (tableFor form b c a) ≡ entry Own BEXT 80 b
   unfolding tableFor rowFor
   bext-found h =
       ap (λ (x : Bool). find BEXT (tableIf form x (eqb c 0) 80 b (80 + optionalSize b) c (80 + optionalSize b + optionalSize c) a)) (ne-eqb b 0 h)
@@ -110,7 +111,7 @@ module _ (form : Form) (b c a : ℕ) where
       ap (λ (x : Bool). count BEXT (tableIf form x (eqb c 0) 80 b (80 + optionalSize b) c (80 + optionalSize b + optionalSize c) a)) (eq-eqb b 0 h)
       ∙ no-bext-if 80 b (80 + optionalSize b) c (80 + optionalSize b + optionalSize c) a form (eqb c 0)
 
-  pub chna-found : (c ≡ 0 → ⊥) → find CHNA (tableFor form b c a) ≡ entry CHNA (80 + optionalSize b) c
+  pub chna-found : (c ≡ 0 → ⊥) → find CHNA (tableFor form b c a) ≡ entry Own CHNA (80 + optionalSize b) c
   unfolding tableFor rowFor
   chna-found h =
       ap (λ (y : Bool). find CHNA (tableIf form (eqb b 0) y 80 b (80 + optionalSize b) c (80 + optionalSize b + optionalSize c) a)) (ne-eqb c 0 h)

@@ -34,7 +34,7 @@ use Rattle.upgrade.proofs.Thirds.{third-frames, third-zero}
 use Rattle.upgrade.proofs.Outcomes.{upgrade-given}
 use Rattle.file_parts.specs.Parts.{padOf, chunkWith, chunkBytes, optional, firstChunk, ownField, openingBytes, optionalSize}
 use Rattle.file.specs.Files.{bodyBytes, formSizeFor, fileBytes, inputGood, sizesGood, fileOut}
-use Rattle.writer.specs.WayBack.{entry, firstName, tableFor}
+use Rattle.writer.specs.WayBack.{entry, dataSource, firstName, tableFor}
 use Rattle.chna.proofs.Pads.{zeroed-length}
 use Rattle.file_parts.proofs.Lengths.{opening-length, optional-length}
 use Rattle.file.proofs.Sizes.{fmt-length, form-size}
@@ -177,7 +177,7 @@ module _ (f : Format) (b c a : List ℕ) (w : Fine Riff f b c a) (small : length
   size-is : formSize (scan-of .head) (number 4 4 file) ≡ formSizeFor Riff f b c a
   size-is = omega (arith, back.head-opened Riff f b c a w small .whole, back.size-whole Riff f b c a w small)
 
-  audio-is : find DATA (scan-of .rows) ≡ entry DATA (80 + optionalSize (length b) + optionalSize (length c)) (length a)
+  audio-is : find DATA (scan-of .rows) ≡ entry (dataSource Riff) DATA (80 + optionalSize (length b) + optionalSize (length c)) (length a)
   audio-is = back.facts-are Riff f b c a w small .audio
 
   third-is : (u : Target) → thirdFor u scan-of file ≡ thirdOf (targetForm u) (length a / f .block)

@@ -8,6 +8,8 @@ use lib.Dec.{eqb}
 use Rattle.le.specs.Number.{number}
 use Rattle.le.specs.Choice.{pick}
 use Rattle.chunk.specs.declared.Entry.{Entry}
+use Rattle.chunk.specs.declared.Source.{Source}
+use Rattle.chunk.specs.declared.Source.the-variants.{Own, DataSize}
 use Rattle.chunk.specs.declared.Verdict.the-variants.{Accepted}
 use Rattle.chunk.specs.Refusals.{given}
 use Rattle.chunk.specs.Names.{DS64, JUNK, FMT, DATA, BEXT, CHNA}
@@ -30,8 +32,14 @@ use Rattle.file.specs.Files.{fileOut}
 
 -- ---- the table of a written file
 
-unfoldable pub entry : ℕ → ℕ → ℕ → Entry
-entry name place size = record { name = name; place = place; size = size }
+unfoldable pub entry : Source → ℕ → ℕ → ℕ → Entry
+entry source name place size = record { name = name; place = place; size = size; source = source }
+
+-- where data's size comes from: its field is all ones in the 64-bit forms
+unfoldable pub dataSource : Form → Source
+dataSource Riff = Own
+dataSource Rf64 = DataSize
+dataSource Bw64 = DataSize
 
 unfoldable pub firstName : Form → ℕ
 firstName Riff = JUNK
@@ -41,15 +49,15 @@ firstName Bw64 = DS64
 -- the row of a payload, "empty means absent"
 unfoldable pub rowFor : ℕ → ℕ → ℕ → List Entry
 unfolding pick
-rowFor name place size = pick (eqb size 0) [] (entry name place size ∷ [])
+rowFor name place size = pick (eqb size 0) [] (entry Own name place size ∷ [])
 
 -- "JUNK .. or ds64 .., then fmt, bext, chna, data", of the sizes of bext, chna and the audio
 unfoldable pub tableFor : Form → ℕ → ℕ → ℕ → List Entry
 tableFor form b c a =
-    entry (firstName form) 20 LEAST
-    ∷ (entry FMT 56 16
+    entry Own (firstName form) 20 LEAST
+    ∷ (entry Own FMT 56 16
     ∷ (rowFor BEXT 80 b
-    ++ (rowFor CHNA (80 + optionalSize b) c ++ (entry DATA (80 + optionalSize b + optionalSize c) a ∷ []))))
+    ++ (rowFor CHNA (80 + optionalSize b) c ++ (entry (dataSource form) DATA (80 + optionalSize b + optionalSize c) a ∷ []))))
 
 -- ---- the statements
 

@@ -319,7 +319,7 @@ struct Draft {
     data_size: Option<u64>,
     third: u64,
     /// Bytes of ds64 behind its entries.
-    tail: usize,
+    tail: Vec<u8>,
     /// The entry count, where it isn't the number of entries.
     count: Option<u32>,
     form_size: Option<u64>,
@@ -400,25 +400,19 @@ fn draft(rng: &mut Rng) -> Draft {
         form_ones: wide && !rng.once_in(4),
         data_size: None,
         third: if rng.once_in(4) { rng.pick(&EDGES) } else { frames as u64 },
-        tail: if rng.once_in(4) { rng.below(16) } else { 0 },
+        tail: vec![0x55; if rng.once_in(4) { rng.below(16) } else { 0 }],
         count: None,
         form_size: None,
     };
     if wide {
-        for part in &mut draft.parts {
-            if part.name == *b"data" {
-                if !rng.once_in(4) {
-                    part.field = Some(u32::MAX);
-                }
-            } else if rng.once_in(10) && draft.entries.len() < 15 {
-                part.field = Some(u32::MAX);
-                draft.entries.push((part.name, part.payload.len() as u64));
-            }
+        let data = draft.parts.iter_mut().find(|part| part.name == *b"data");
+        if let Some(data) = data.filter(|_| !rng.once_in(4)) {
+            data.field = Some(u32::MAX);
         }
-        if rng.once_in(6) {
-            let name = rng.pick(&[*b"data", *b"ds64", *b"fmt ", *b"LIST", *b"axml"]);
-            let size = rng.pick(&EDGES);
-            draft.entries.push((name, size));
+        if rng.once_in(3) {
+            crowd(rng, &mut draft);
+        } else {
+            few_entries(rng, &mut draft);
         }
     } else if !rng.once_in(4) {
         let size = rng.pick(&[0, 27, 28, 28, 28, 29, 30, 64]);
@@ -426,6 +420,73 @@ fn draft(rng: &mut Rng) -> Draft {
         draft.parts.insert(0, part(rng, b"JUNK", vec![fill; size]));
     }
     draft
+}
+
+/// An entry for some of the fields, and at times one that no field asks for.
+fn few_entries(rng: &mut Rng, draft: &mut Draft) {
+    for part in &mut draft.parts {
+        if part.name != *b"data" && rng.once_in(10) && draft.entries.len() < 15 {
+            part.field = Some(u32::MAX);
+            draft.entries.push((part.name, part.payload.len() as u64));
+        }
+    }
+    if rng.once_in(6) {
+        let name = rng.pick(&[*b"data", *b"ds64", *b"fmt ", *b"LIST", *b"axml"]);
+        let size = rng.pick(&EDGES);
+        draft.entries.push((name, size));
+    }
+}
+
+/// An entry that a part could ask for, its size right or wrong, or one that none does.
+fn some_entry(rng: &mut Rng, parts: &[Part]) -> ([u8; 4], u64) {
+    if rng.once_in(4) {
+        return (rng.pick(&[*b"none", *b"ds64", *b"data", *b"Fmt "]), rng.pick(&EDGES));
+    }
+    let part = &parts[rng.below(parts.len())];
+    // With the right size, only the mark tells which entry was used, or that none was.
+    let size = if rng.once_in(2) { rng.pick(&EDGES) } else { part.payload.len() as u64 };
+    (part.name, size)
+}
+
+/// Up to 16 entries in any order: some that a field asks for, others of the same names behind them,
+/// others for data and for chunks with a size of their own, and some for none. At times the bytes behind
+/// the last look like one more, or the count leaves the last one out.
+fn crowd(rng: &mut Rng, draft: &mut Draft) {
+    let mut asked: Vec<([u8; 4], u64)> = Vec::new();
+    for part in draft.parts.iter_mut().filter(|part| part.name != *b"data") {
+        let size = part.payload.len() as u64;
+        let first = asked.iter().find(|entry| entry.0 == part.name);
+        if first.map_or(asked.len() < 16, |first| first.1 == size) && rng.once_in(2) {
+            if first.is_none() {
+                asked.insert(rng.below(asked.len() + 1), (part.name, size));
+            }
+            part.field = Some(u32::MAX);
+        }
+    }
+    draft.entries = asked.clone();
+    let wanted = rng.pick(&[1, 2, 3, 5, 8, 12, 15, 16, 16, 16]);
+    // At times all others stand ahead of those that a field asks for.
+    let ahead = rng.once_in(3);
+    while draft.entries.len() < wanted {
+        let entry = some_entry(rng, &draft.parts);
+        let count = draft.entries.len();
+        let first = draft.entries.iter().position(|other| other.0 == entry.0);
+        let at = match first.filter(|_| asked.iter().any(|asked| asked.0 == entry.0)) {
+            Some(_) if ahead => continue,
+            // What a field asks for stays the first of its name.
+            Some(first) => first + 1 + rng.below(count - first),
+            None if ahead => 0,
+            None => rng.below(count + 1),
+        };
+        draft.entries.insert(at, entry);
+    }
+    if rng.once_in(2) {
+        let (name, size) = some_entry(rng, &draft.parts);
+        draft.tail.splice(0..0, name.into_iter().chain(size.to_le_bytes()));
+    }
+    if rng.once_in(8) {
+        draft.count = Some(draft.entries.len() as u32 - 1);
+    }
 }
 
 const KNOWN: [[u8; 4]; 7] = [*b"fmt ", *b"data", *b"bext", *b"chna", *b"fact", *b"ds64", *b"JUNK"];
@@ -531,7 +592,7 @@ fn lay_out(rng: &mut Rng, draft: &Draft) -> Vec<u8> {
     let sloppy = rng.once_in(60);
     let mut ds64_at = None;
     if wide != sloppy {
-        let size = 28 + 12 * draft.entries.len() + draft.tail;
+        let size = 28 + 12 * draft.entries.len() + draft.tail.len();
         file.extend(b"ds64");
         file.extend((size as u32).to_le_bytes());
         ds64_at = Some(file.len());
@@ -542,7 +603,8 @@ fn lay_out(rng: &mut Rng, draft: &Draft) -> Vec<u8> {
             file.extend(name);
             file.extend(size.to_le_bytes());
         }
-        file.resize(file.len() + draft.tail + size % 2, 0x55);
+        file.extend(&draft.tail);
+        file.resize(file.len() + size % 2, 0x55);
     }
     let mut data_size = 0;
     for part in &draft.parts {

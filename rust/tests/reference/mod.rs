@@ -42,11 +42,31 @@ impl Form {
     }
 }
 
+/// Where a size came from: "own field, ds64 data size, or the position (from 0) of the ds64 entry used".
+#[derive(Debug, Clone, Copy, PartialEq, Eq)]
+pub enum Mark {
+    OwnField,
+    DataSize,
+    Entry(usize),
+}
+
+impl Mark {
+    /// Its word in a table.
+    pub fn word(self) -> u64 {
+        match self {
+            Mark::OwnField => 0,
+            Mark::DataSize => 1,
+            Mark::Entry(position) => 2 + position as u64,
+        }
+    }
+}
+
 #[derive(Debug, Clone, Copy, PartialEq, Eq)]
 pub struct Chunk {
     pub name: [u8; 4],
     pub place: usize,
     pub size: u64,
+    pub mark: Mark,
 }
 
 impl Chunk {
@@ -89,23 +109,30 @@ fn ds64(file: &[u8]) -> Option<Ds64> {
     })
 }
 
-/// The true size of a chunk, or `None` where it isn't known.
-fn true_size(name: [u8; 4], own: u64, ds64: Option<&Ds64>) -> Option<u64> {
+/// The true size of a chunk and where it came from, or `None` where it isn't known.
+fn true_size(name: [u8; 4], own: u64, ds64: Option<&Ds64>) -> Option<(u64, Mark)> {
+    // "A size field that is not all ones is the true size."
     if own != ALL_ONES {
-        return Some(own);
+        return Some((own, Mark::OwnField));
     }
+    // "On data, the ds64 data size; on another chunk, the first entry of that name."
     let ds64 = ds64?;
     if name == *b"data" {
-        return Some(ds64.data_size);
+        return Some((ds64.data_size, Mark::DataSize));
     }
-    ds64.entries.iter().find(|entry| entry.0 == name).map(|entry| entry.1)
+    for (position, entry) in ds64.entries.iter().enumerate() {
+        if entry.0 == name {
+            return Some((entry.1, Mark::Entry(position)));
+        }
+    }
+    None
 }
 
 /// The headers from byte 12 on, by one size rule, up to the end or the first refusal.
 fn headers(
     file: &[u8],
     ds64_may_be_first: Option<bool>,
-    size_rule: impl Fn([u8; 4], u64) -> Option<u64>,
+    size_rule: impl Fn([u8; 4], u64) -> Option<(u64, Mark)>,
 ) -> (Vec<Chunk>, Refused<()>) {
     let end = file.len();
     let mut chunks = Vec::new();
@@ -123,7 +150,7 @@ fn headers(
                 return (chunks, Err(4));
             }
         }
-        let Some(size) = size_rule(name, le(&file[at + 4..at + 8])) else {
+        let Some((size, mark)) = size_rule(name, le(&file[at + 4..at + 8])) else {
             return (chunks, Err(7));
         };
         let place = at + 8;
@@ -131,7 +158,7 @@ fn headers(
         if next > end as u128 {
             return (chunks, Err(8));
         }
-        chunks.push(Chunk { name, place, size });
+        chunks.push(Chunk { name, place, size, mark });
         at = next as usize;
     }
     (chunks, Ok(()))
@@ -140,6 +167,8 @@ fn headers(
 pub struct Scan {
     pub form: Form,
     pub chunks: Vec<Chunk>,
+    /// The entries of ds64, none in RIFF.
+    pub entries: Vec<([u8; 4], u64)>,
     third: u64,
     block: u64,
 }
@@ -193,7 +222,8 @@ pub fn scan(file: &[u8]) -> Refused<Scan> {
     if chunks[data[0]].size % block != 0 {
         return Err(12);
     }
-    Ok(Scan { form, chunks, third: ds64.map_or(0, |ds64| ds64.third), block })
+    let (third, entries) = ds64.map_or((0, Vec::new()), |ds64| (ds64.third, ds64.entries));
+    Ok(Scan { form, chunks, entries, third, block })
 }
 
 pub fn sample_count(file: &[u8]) -> Refused<Option<u64>> {
@@ -437,7 +467,9 @@ pub fn walk32(file: &[u8]) -> (Vec<Chunk>, u32) {
     if field != ALL_ONES && (8 + field != file.len() as u64 || field < 4) {
         return (Vec::new(), 5);
     }
-    let (chunks, stop) = headers(file, None, |_, own| (own != ALL_ONES).then_some(own));
+    // "The 32-bit walk only ever says own field."
+    let rule = |_, own| (own != ALL_ONES).then_some((own, Mark::OwnField));
+    let (chunks, stop) = headers(file, None, rule);
     (chunks, stop.err().unwrap_or(0))
 }
 

@@ -33,6 +33,9 @@ mul-words-3 c = search needs
 slice-write-words-3 : tie.Need-slice-write-words-3
 slice-write-words-3 c = simp length-set (omega arith)
 
+number-requires : tie.Need-number-requires
+number-requires c κs = search needs
+
 add-words-3 : tie.Need-add-words-3
 add-words-3 c = search needs
 
@@ -47,7 +50,7 @@ same-length c = search needs
 
 returns : tie.Need-returns
 unfolding rowWords
-returns c = simp towards-suc refl
+returns c = simp (towards-suc, c .number .ensures) refl
 
 pub put-row-spec : {M : Type 1} → statement M
 put-row-spec =
@@ -61,6 +64,7 @@ put-row-spec =
     add-words-2
     mul-words-3
     slice-write-words-3
+    number-requires
     add-words-3
     mul-words-4
     slice-write-words-4

@@ -30,9 +30,21 @@ mul-t11 c = search needs
 shared-slice-read-t13 : tie.Need-shared-slice-read-t13
 shared-slice-read-t13 c = search needs
 
+add-source-of : tie.Need-add-source-of
+add-source-of c = search needs
+
+mul-source-of : tie.Need-mul-source-of
+mul-source-of c = search needs
+
+shared-slice-read-source-of : tie.Need-shared-slice-read-source-of
+shared-slice-read-source-of c = search needs
+
+source-of-requires : tie.Need-source-of-requires
+source-of-requires c κs = c .before .before .before .before .before .pre .1
+
 returns : tie.Need-returns
 unfolding rowIn
-returns c = refl
+returns c = simp (c .source-of .ensures) refl
 
 pub row-spec : {M : Type 1} → statement M
 row-spec =
@@ -46,4 +58,8 @@ row-spec =
     add-t10
     mul-t11
     shared-slice-read-t13
+    add-source-of
+    mul-source-of
+    shared-slice-read-source-of
+    source-of-requires
     returns)

@@ -33,14 +33,17 @@ said a = trueSize (a .args .head) (entriesOf (a .args .head) (a .args .file .now
 abbrev ds64-says : tie.Start → Answer TrueSize
 ds64-says a = onesSize (a .args .head .form) (a .args .head .ds64) (entriesOf (a .args .head) (a .args .file .now)) (a .args .h .name)
 
-by-ds64 : (c : tie.Then2) → said (c .before .before .before .before .before) ≡ ds64-says (c .before .before .before .before .before)
-by-ds64 c = true-ones _ _ _ _ _ (other-placed _ _ _ (c .before .before .if1 .left)) (c .if2 .taken)
+by-ds64 : (c : tie.Then2) → said (c .before .before .before .before .before .before) ≡ ds64-says (c .before .before .before .before .before .before)
+by-ds64 c = true-ones _ _ _ _ _ (other-placed _ _ _ (c .before .before .before .if1 .left)) (c .if2 .taken)
 
 returns : tie.Need-returns
 unfolding foundAs
 returns c =
     let p = c .before .before .before .pre in
     at-header _ (p .1) (true-stray _ _ _ _ _ (stray-placed _ _ _ (c .if1 .taken) λ w e. omega (arith, p .0 .later w, e)))
+
+own-requires : tie.Need-own-requires
+own-requires c κs = search needs
 
 ones-size-requires : tie.Need-ones-size-requires
 ones-size-requires c κs = search needs
@@ -54,7 +57,7 @@ enum-told c = search needs
 returns-2 : tie.Need-returns-2
 unfolding foundAs
 returns-2 c =
-    at-header _ (c .before .before .before .before .before .before .before .before .pre .1)
+    at-header _ (c .before .before .before .before .before .before .before .before .before .pre .1)
     (by-ds64 (c .before .before .before)
     ∙ ones-only _ _ _ _ (sym (c .before .before .ones-size .ensures) ∙ c .enum-told .given .1))
 
@@ -65,13 +68,13 @@ returns-3 : tie.Need-returns-3
 unfolding foundAs past
 returns-3 c =
     sym (placed-ends _ _ (omega arith) ∙ ends-past _ _ _ (omega arith))
-    ∙ at-header _ (c .before .before .before .before .before .before .before .before .before .before .before .pre .1)
+    ∙ at-header _ (c .before .before .before .before .before .before .before .before .before .before .before .before .pre .1)
     (by-ds64 (c .before .before .before .before .before .before)
     ∙ size-given _ _ (sym (c .before .before .before .before .before .ones-size .ensures) ∙ c .before .before .before .given .given .1))
 
 found-requires : tie.Need-found-requires
 found-requires c κs =
-    let p = c .before .before .before .before .before .pre in
+    let p = c .before .before .before .before .before .before .pre in
     record {
       start = p .0 .due .start;
       whole = p .0 .due .whole;
@@ -79,28 +82,31 @@ found-requires c κs =
       small =
           ⊎-elim
           (λ w. let b = ap (λ (t : TrueSize). t .bytes) (w .7) in omega (arith, b, w .6 .left))
-          (λ w. let b = ap (λ (t : TrueSize). t .bytes) (w .1) in omega (arith, b, p .1 .field-fits))
+          (λ w. let b = ap (λ (t : TrueSize). t .bytes) (w .1 ∙ c .before .before .own .ensures) in omega (arith, b, p .1 .field-fits))
           (c .if2 .came);
     }
 
 -- the size where the two ways meet
-size : (c : tie.Joined2) → said (c .before .before .before .before .before) ≡ given (c .if2 .size)
+size : (c : tie.Joined2) → said (c .before .before .before .before .before .before) ≡ given (c .if2 .size)
 size c =
     ⊎-elim
     (λ w. by-ds64 (record { before = c .before; if2 = w .0 }) ∙ size-given _ _ (sym (w .1 .ensures) ∙ w .3 .given .1) ∙ ap given (sym (w .7)))
-    (λ w. true-field _ _ _ _ _ (other-placed _ _ _ (c .before .before .if1 .left)) (w .0 .left) ∙ ap given (sym (w .1)))
+    (λ w.
+    true-field _ _ _ _ _ (other-placed _ _ _ (c .before .before .before .if1 .left)) (w .0 .left)
+    ∙ ap given (sym (w .1 ∙ c .before .before .own .ensures)))
     (c .if2 .came)
 
 returns-4 : tie.Need-returns-4
 unfolding foundAs
 returns-4 c =
-    c .found .ensures ∙ at-header _ (c .before .before .before .before .before .before .pre .1) (size (c .before))
+    c .found .ensures ∙ at-header _ (c .before .before .before .before .before .before .before .pre .1) (size (c .before))
 
 pub step-spec : {M : Type 1} → statement M
 step-spec =
     tie.close
     (tie.spec
     returns
+    own-requires
     ones-size-requires
     enum-known-given
     enum-told

@@ -35,6 +35,13 @@ const AFTER_HELP: &str = "\
 Exit status: 0 all good; 1 some file was refused; 2 bad usage, or a file that can't be opened, \
 read, mapped or written.";
 
+const SCAN_HELP: &str = "\
+Where some size isn't the chunk's own, a column says where each came from:
+  own      the chunk's own size field
+  ds64     the data size of ds64
+  entry N  the entry of ds64 at position N, from 0
+JSON always has it, as \"from\".";
+
 fn files() -> Arg {
     Arg::new("FILE").required(true).action(ArgAction::Append).value_parser(value_parser!(PathBuf))
 }
@@ -61,7 +68,9 @@ fn command() -> Command {
         .after_help(AFTER_HELP)
         .subcommand_required(true)
         .arg_required_else_help(true)
-        .subcommand(question("scan", "The table of each file, or its refusal"))
+        .subcommand(
+            question("scan", "The table of each file, or its refusal").after_help(SCAN_HELP),
+        )
         .subcommand(question("walk", "What the plain 32-bit walk shows, and where it stops"))
         .subcommand(question("samples", "The sample count that each file states"))
         .subcommand(question("info", "Form, format, bext and chna records, duration"))

@@ -121,6 +121,7 @@ fn chunks(chunks: &[Chunk]) -> (&'static str, Json) {
             ("hex", Json::Text(bytes.iter().map(|byte| format!("{byte:02x}")).collect())),
             ("place", Json::Number(chunk.place)),
             ("size", Json::Number(chunk.size)),
+            ("from", Json::Text(chunk.source.to_string())),
         ])
     };
     ("chunks", Json::List(chunks.iter().map(chunk).collect()))

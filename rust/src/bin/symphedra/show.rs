@@ -3,7 +3,7 @@
 use crate::report::{Bext, Chna, Info, Report};
 use std::io::{self, IsTerminal, Write};
 use std::path::Path;
-use symphedra::{Chunk, Form, Refusal, Target};
+use symphedra::{Chunk, Form, Refusal, Source, Target};
 
 /// How to draw on an output.
 pub struct Style {
@@ -107,25 +107,35 @@ fn table(out: &mut impl Write, style: &Style, chunks: &[Chunk], length: u64) -> 
     if chunks.is_empty() {
         return Ok(());
     }
-    let rows: Vec<[String; 3]> = chunks
+    let rows: Vec<[String; 4]> = chunks
         .iter()
-        .map(|chunk| [chunk.name.to_string(), separated(chunk.place), separated(chunk.size)])
+        .map(|chunk| {
+            let (place, size) = (separated(chunk.place), separated(chunk.size));
+            [chunk.name.to_string(), place, size, chunk.source.to_string()]
+        })
         .collect();
     let widest = |column: usize, least: usize| {
         rows.iter().map(|row| row[column].len()).fold(least, usize::max)
     };
     let (name, place, size) = (widest(0, 4), widest(1, 5), widest(2, 4));
-    let head = format!("  {:name$}  {:>place$}  {:>size$}", "name", "place", "size");
-    writeln!(out, "{}", style.paint("2", &head))?;
+    // Where every size is the chunk's own, there is nothing to tell.
+    let told = chunks.iter().any(|chunk| chunk.source != Source::Own);
+    let from = if told { 2 + widest(3, 4) } else { 0 };
+    let behind_name = |at: &str, bytes: &str, source: &str| {
+        let source = if told { format!("  {source}") } else { String::new() };
+        format!("  {at:>place$}  {bytes:>size$}{source:from$}")
+    };
+    let head = format!("  {:name$}{}", "name", behind_name("place", "size", "from"));
+    writeln!(out, "{}", style.paint("2", head.trim_end()))?;
     // Room for the bar: the columns left of it, two spaces between, one column free at the end.
     let room = style.columns.map(|columns| columns.saturating_sub(head.len() + 3).clamp(8, 64));
-    for (chunk, row) in chunks.iter().zip(&rows) {
-        let shown = style.name(&format!("{:name$}", row[0]));
-        write!(out, "  {shown}  {:>place$}  {:>size$}", row[1], row[2])?;
-        if let Some(width) = room {
-            write!(out, "  {}", bar(style, chunk, length, width))?;
+    for (chunk, [shown, at, bytes, source]) in chunks.iter().zip(&rows) {
+        write!(out, "  {}", style.name(&format!("{shown:name$}")))?;
+        let rest = behind_name(at, bytes, source);
+        match room {
+            Some(width) => writeln!(out, "{rest}  {}", bar(style, chunk, length, width))?,
+            None => writeln!(out, "{}", rest.trim_end())?,
         }
-        writeln!(out)?;
     }
     Ok(())
 }
@@ -293,6 +303,45 @@ mod tests {
     use super::*;
     use symphedra::Name;
 
+    fn chunk(place: u64, size: u64, source: Source) -> Chunk {
+        Chunk { name: Name(*b"data"), place, size, source }
+    }
+
+    fn shown(columns: Option<usize>, chunks: &[Chunk]) -> String {
+        let style = Style { colour: false, columns, marks: ('#', '.') };
+        let mut out = Vec::new();
+        table(&mut out, &style, chunks, 1 << 40).unwrap();
+        String::from_utf8(out).unwrap()
+    }
+
+    #[test]
+    fn a_column_says_where_sizes_came_from() {
+        let own = chunk(20, 28, Source::Own);
+        assert_eq!(shown(None, &[own]), "  name  place  size\n  data     20    28\n");
+        let sources = [Source::Own, Source::DataSize, Source::Entry(9), Source::Entry(15)];
+        let chunks = sources.map(|source| chunk(20, 28, source));
+        let wanted = "  name  place  size  from
+  data     20    28  own
+  data     20    28  ds64
+  data     20    28  entry 9
+  data     20    28  entry 15
+";
+        assert_eq!(shown(None, &chunks), wanted);
+    }
+
+    #[test]
+    fn bars_stay_on_the_terminal() {
+        let long = 700_000_000_000;
+        for (source, bar) in [(Source::Own, 37), (Source::DataSize, 31), (Source::Entry(15), 27)] {
+            let chunks = [chunk(20, 28, Source::Own), chunk(long, long, source)];
+            let out = shown(Some(80), &chunks);
+            for line in out.lines().skip(1) {
+                assert_eq!(line.len(), 79, "{out}");
+                assert_eq!(line.matches(['#', '.']).count(), bar, "{out}");
+            }
+        }
+    }
+
     #[test]
     fn numbers_have_separators() {
         let shown = [0, 7, 999, 1000, 1_234_567, u64::MAX].map(separated);
@@ -311,7 +360,7 @@ mod tests {
 
     #[test]
     fn bars_stay_in_their_width() {
-        let chunk = |place, size| Chunk { name: Name(*b"data"), place, size };
+        let chunk = |place, size| chunk(place, size, Source::Own);
         assert_eq!(cells(&chunk(0, 100), 100, 10), (0, 10));
         assert_eq!(cells(&chunk(50, 10), 100, 10), (5, 6));
         assert_eq!(cells(&chunk(50, 11), 100, 10), (5, 7));

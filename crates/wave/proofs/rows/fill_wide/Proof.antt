@@ -27,13 +27,13 @@ ahead : (c : tie.In-loop Inv-loop μ-loop)
 ahead c = filling-next _ _ _ _ _ _ _ (c .before .loop .inv) (c .loop-test .taken)
 
 -- its size, where the two ways to it meet
-sized : (c : tie.Joined1 Inv-loop μ-loop) → c .if1 .size .bytes ≡ ahead (c .before .before .before) .entry .size
+sized : (c : tie.Joined1 Inv-loop μ-loop) → c .if1 .size ≡ row-size (ahead (c .before .before .before .before) .entry)
 sized c =
-    let h = c .before .before .header .ensures in
-    let a = ahead (c .before .before .before) in
+    let h = c .before .before .before .header .ensures in
+    let a = ahead (c .before .before .before .before) in
     ⊎-elim
-    (λ w. ap (λ (t : TrueSize). t .bytes) (w .2 ∙ given-inj _ _ (sym (w .1 .ensures .is) ∙ ones-size _ _ _ _ _ h (a .sized) (w .0 .taken))))
-    (λ w. ap (λ (t : TrueSize). t .bytes) (w .1) ∙ true-size _ _ _ _ _ h (a .sized) (w .0 .left))
+    (λ w. w .2 ∙ given-inj _ _ (sym (w .1 .ensures .is) ∙ ones-size _ _ _ _ _ h (a .sized) (w .0 .taken)))
+    (λ w. w .1 ∙ c .before .before .own .ensures ∙ true-size _ _ _ _ _ h (a .sized) (w .0 .left))
     (c .if1 .came)
 
 loop-holds : tie.Need-loop-holds Inv-loop μ-loop
@@ -42,33 +42,36 @@ loop-holds c = filling-start _ _ _ _ (c .before .before .pre .rows)
 header-requires : tie.Need-header-requires Inv-loop μ-loop
 header-requires c κs = (c .before .loop .inv .start, ahead c .whole)
 
+own-requires : tie.Need-own-requires Inv-loop μ-loop
+own-requires c κs = search needs
+
 known-requires : tie.Need-known-requires Inv-loop μ-loop
 known-requires c κs =
-    let a = ahead (c .before .before .before) in
+    let a = ahead (c .before .before .before .before) in
     record {
-      fit = c .before .before .before .before .before .before .before .pre .fit;
+      fit = c .before .before .before .before .before .before .before .before .pre .fit;
       size = row-size (a .entry);
-      is = ones-size _ _ _ _ _ (c .before .before .header .ensures) (a .sized) (c .if1 .taken);
+      is = ones-size _ _ _ _ _ (c .before .before .before .header .ensures) (a .sized) (c .if1 .taken);
     }
 
 entry-requires : tie.Need-entry-requires Inv-loop μ-loop
 entry-requires c κs = search needs
 
 put-row-requires : tie.Need-put-row-requires Inv-loop μ-loop
-put-row-requires c κs = ahead (c .before .before .before .before .before) .holds
+put-row-requires c κs = ahead (c .before .before .before .before .before .before) .holds
 
 past-requires : tie.Need-past-requires Inv-loop μ-loop
-past-requires c κs = (c .before .before .before .before .before .before .before .before .before .loop .inv .even, omega (arith, sized (c .before .before .before .before .before), ahead (c .before .before .before .before .before .before .before .before) .ends))
+past-requires c κs = (c .before .before .before .before .before .before .before .before .before .before .loop .inv .even, omega (arith, ap (λ (t : TrueSize). t .bytes) (sized (c .before .before .before .before .before)), ahead (c .before .before .before .before .before .before .before .before .before) .ends))
 
 add-row : tie.Need-add-row Inv-loop μ-loop
-add-row c = omega (arith, ahead (c .before .before .before .before .before .before .before .before .before) .holds)
+add-row c = omega (arith, ahead (c .before .before .before .before .before .before .before .before .before .before) .holds)
 
 loop-less : tie.Need-loop-less Inv-loop μ-loop
-loop-less c = omega (arith, c .before .before .before .before .before .before .before .before .before .loop-test .taken)
+loop-less c = omega (arith, c .before .before .before .before .before .before .before .before .before .before .loop-test .taken)
 
 loop-again : tie.Need-loop-again Inv-loop μ-loop
 loop-again c =
-    ahead (c .before .before .before .before .before .before .before .before .before) .after _ _ _ _ _ (c .before .before .before .before .before .before .before .before .header .ensures .name) (sized (c .before .before .before .before .before .before)) (c .before .before .before .before .entry .ensures) (c .before .before .before .put-row .ensures)
+    ahead (c .before .before .before .before .before .before .before .before .before .before) .after _ _ _ _ _ (c .before .before .before .before .before .before .before .before .before .header .ensures .name) (sized (c .before .before .before .before .before .before)) (c .before .before .before .before .entry .ensures) (c .before .before .before .put-row .ensures)
     (c .past .ensures)
 
 same-length : tie.Need-same-length Inv-loop μ-loop
@@ -86,6 +89,7 @@ fill-wide-spec =
     μ-loop
     loop-holds
     header-requires
+    own-requires
     known-requires
     entry-requires
     put-row-requires

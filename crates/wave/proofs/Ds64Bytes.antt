@@ -1,140 +1,18 @@
--- The sizes that ds64 gives, by the grammar and by the scan's rule: the entries of a list of bytes are the bytes of the
--- entries, the first entry of a name is the one that the rule finds, and a chunk is good by its size where the rule knows
--- that size.
+-- ds64 as bytes: the numbers and entries read of a list of bytes are those whose bytes stand there, and the other way round.
 -- Assumes nothing.
 use mathlib.Core.Path.{_≡_, refl, sym, ap, ap₂, _∙_, subst}
-use mathlib.Core.Bool.{Bool, true, false}
 use mathlib.Core.Logic.{_⊎_, inl, inr}
 use mathlib.Core.List.{List, [], _∷_, _++_, append-assoc, List·Memᴰ, List·Memᴰ·head, List·Memᴰ·tail, List·Memᴰ·not-nil, List·Memᴰ·cases-cons}
 use Prim.Native.Nat.{ℕ, zero, suc, _+_, _-_, _*_, _^_, _≤_, _<_}
 use native.Mathlib.Omega.{arith}
 use lib.ListN.{length, take, drop, length-append, length-drop}
 use lib.Seq.{drop-drop, take-append-add}
-use lib.Dec.{eqb}
-use borrow.Author.Tests.{eq-eqb, ne-eqb, eqb-true, eqb-false}
 use Rattle.le.specs.Number.{Bytes, bytes, field, number}
 use Rattle.le.proofs.Laws.{bytes-length, number-at, drop-past, number-then, number-bound, Bytes-drop}
-use Rattle.chunk.specs.declared.Refusal.{Refusal}
-use Rattle.chunk.specs.declared.TrueSize.{TrueSize}
-use Rattle.chunk.specs.declared.Refusal.the-variants.{BadDs64, UnknownSize}
-use Rattle.chunk.specs.Refusals.{Answer, refused, given}
-use Rattle.chunk.specs.Names.{DATA}
-use Rattle.chunk.specs.Fields.{ONES}
-use Rattle.chunk.proofs.Checks.{given-inj, refused-given, true-false, pick-true, pick-false}
-use Rattle.form.specs.declared.Form.{Form}
-use Rattle.form.specs.declared.Form.the-variants.{Riff, Rf64, Bw64}
 use Rattle.form.specs.declared.Ds64.{Ds64}
-use Rattle.form.specs.declared.Head.{Head}
-use Rattle.form.specs.Forms.{isWide, ds64At}
-use Rattle.truesize.specs.Sizes.{Ds64Entry, entriesIn, entrySize, knownSize, onesSize, strayDs64, trueSize}
-use Rattle.truesize.proofs.Ds64Entries.{true-stray, true-field, true-ones}
-use Rattle.truesize.proofs.Sizes.{own-true}
-use Rattle.wave.specs.Grammar.{Chunk, GoodChunk, FirstEntry, entriesBytes, ds64Bytes}
-
--- ---- the rule's answer where it knows a size
-
-abbrev pub known : ℕ → Answer TrueSize
-known n = given (record { bytes = n })
-
-known-inj : (m n : ℕ) → known m ≡ known n → m ≡ n
-known-inj m n e = ap (λ (x : TrueSize). x .bytes) (given-inj _ _ e)
-
-refused-known : (r : Refusal) (n : ℕ) → refused r ≡ known n → ⊥
-refused-known r n e = refused-given r _ e
-
--- ---- "the first entry of that name"
-
-first-given : (name size : ℕ) (ks : List Ds64Entry) → FirstEntry name size ks → entrySize name ks ≡ known size
-unfolding entrySize
-first-given name size ks f = ap (entrySize name) (f .is) ∙ go (f .before) (f .none)
-  where
-    go : (xs : List Ds64Entry) → ((k : Ds64Entry) → List·Memᴰ k xs → k .name ≡ name → ⊥)
-        → entrySize name (xs ++ record { name = name; size = size } ∷ f .after) ≡ known size
-    go [] n = pick-true (eqb name name) _ _ (eq-eqb name name refl)
-    go (x ∷ xs) n =
-        pick-false (eqb (x .name) name) _ _ (ne-eqb (x .name) name (n x (List·Memᴰ·head refl)))
-        ∙ go xs (λ k m. n k (List·Memᴰ·tail m))
-
-given-first : (name size : ℕ) (ks : List Ds64Entry) → entrySize name ks ≡ known size → FirstEntry name size ks
-unfolding entrySize
-given-first name size [] e = absurd (refused-known UnknownSize size e)
-given-first name size (k ∷ ks) e = go (given-first name size ks) (eqb (k .name) name) refl
-  where
-    go : (entrySize name ks ≡ known size → FirstEntry name size ks) → (b : Bool) → eqb (k .name) name ≡ b
-        → FirstEntry name size (k ∷ ks)
-    go below true h =
-        let p : k .name ≡ name = eqb-true (k .name) name h in
-        let q : k .size ≡ size = known-inj (k .size) size (sym (pick-true (eqb (k .name) name) _ _ h) ∙ e) in
-        record { before = []; after = ks; is = λ i. record { name = p i; size = q i } ∷ ks; none = λ x m. absurd (List·Memᴰ·not-nil m) }
-    go below false h =
-        let f = below (sym (pick-false (eqb (k .name) name) _ _ h) ∙ e) in
-        record {
-          before = k ∷ f .before;
-          after = f .after;
-          is = ap (λ (l : List Ds64Entry). k ∷ l) (f .is);
-          none = λ x m q. miss f x q (List·Memᴰ·cases-cons m);
-        }
-      where
-        miss : (f : FirstEntry name size ks) (x : Ds64Entry) → x .name ≡ name → (x ≡ k) ⊎ List·Memᴰ x (f .before) → ⊥
-        miss f x q (inl p) = eqb-false (k .name) name h (sym (ap (λ (y : Ds64Entry). y .name) p) ∙ q)
-        miss f x q (inr m) = f .none x m q
-
--- ---- a chunk's size
-
--- what the scan's rule knows of a good chunk
-pub good-size : (h : Head) (ks : List Ds64Entry) (at : ℕ) (c : Chunk) → strayDs64 (h .form) at (c .name) ≡ false
-    → GoodChunk (h .form) (h .ds64) ks c → trueSize h ks at (c .name) (c .field) ≡ known (length (c .payload))
-unfolding knownSize onesSize isWide
-good-size h ks at c p g = go (eqb (c .field) ONES) refl
-  where
-    wide : (f : Form) → isWide f ≡ true → onesSize f (h .ds64) ks (c .name) ≡ knownSize (h .ds64) ks (c .name)
-    wide Riff w = absurd (true-false false w refl)
-    wide Rf64 w = refl
-    wide Bw64 w = refl
-
-    of-ds64 : c .field ≡ ONES → (b : Bool) → eqb (c .name) DATA ≡ b → knownSize (h .ds64) ks (c .name) ≡ known (length (c .payload))
-    of-ds64 o true e = pick-true (eqb (c .name) DATA) _ _ e ∙ ap known (sym (g .audio o (eqb-true (c .name) DATA e)))
-    of-ds64 o false e =
-        pick-false (eqb (c .name) DATA) _ _ e
-        ∙ first-given (c .name) (length (c .payload)) ks (g .other o (eqb-false (c .name) DATA e))
-
-    go : (b : Bool) → eqb (c .field) ONES ≡ b → trueSize h ks at (c .name) (c .field) ≡ known (length (c .payload))
-    go true e =
-        let o = eqb-true (c .field) ONES e in
-        true-ones h ks at (c .name) (c .field) p o ∙ wide (h .form) (g .wide o) ∙ of-ds64 o (eqb (c .name) DATA) refl
-    go false e =
-        let o = eqb-false (c .field) ONES e in
-        true-field h ks at (c .name) (c .field) p o ∙ ap known (g .own o)
-
--- what a known size tells
-pub record Told (form : Form) (d : Ds64) (ks : List Ds64Entry) (name own n : ℕ) : Type 0 where
-  pub plain : (own ≡ ONES → ⊥) → own ≡ n
-  pub wide : own ≡ ONES → isWide form ≡ true
-  pub audio : own ≡ ONES → name ≡ DATA → n ≡ d .«data_size»
-  pub other : own ≡ ONES → (name ≡ DATA → ⊥) → FirstEntry name n ks
-
-pub size-told : (h : Head) (ks : List Ds64Entry) (at name own n : ℕ) → trueSize h ks at name own ≡ known n
-    → Told (h .form) (h .ds64) ks name own n
-unfolding knownSize onesSize isWide
-size-told h ks at name own n e =
-    record {
-      plain = λ k. sym (own-true h ks at name own _ e k);
-      wide = λ o. of-ds64 o .0;
-      audio = λ o p. sym (known-inj _ _ (sym (pick-true (eqb name DATA) _ _ (eq-eqb name DATA p)) ∙ of-ds64 o .1));
-      other = λ o p. given-first name n ks (sym (pick-false (eqb name DATA) _ _ (ne-eqb name DATA p)) ∙ of-ds64 o .1);
-    }
-  where
-    placed : (b : Bool) → strayDs64 (h .form) at name ≡ b → strayDs64 (h .form) at name ≡ false
-    placed true s = absurd (refused-known BadDs64 n (sym (true-stray h ks at name own s) ∙ e))
-    placed false s = s
-
-    wide : (f : Form) → onesSize f (h .ds64) ks name ≡ known n → (isWide f ≡ true) × (knownSize (h .ds64) ks name ≡ known n)
-    wide Riff k = absurd (refused-known UnknownSize n k)
-    wide Rf64 k = (refl, k)
-    wide Bw64 k = (refl, k)
-
-    of-ds64 : own ≡ ONES → (isWide (h .form) ≡ true) × (knownSize (h .ds64) ks name ≡ known n)
-    of-ds64 o = wide (h .form) (sym (true-ones h ks at name own (placed (strayDs64 (h .form) at name) refl) o) ∙ e)
+use Rattle.form.specs.Forms.{ds64At}
+use Rattle.truesize.specs.Sizes.{Ds64Entry, entriesIn}
+use Rattle.wave.specs.Grammar.{entriesBytes, ds64Bytes}
 
 -- ---- entries as bytes
 
