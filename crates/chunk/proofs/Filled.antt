@@ -6,7 +6,7 @@ use Prim.Native.Nat.{ℕ, zero, suc, _+_, _*_, _≤_, _<_}
 use native.Mathlib.Nat.{zero-add, add-zero}
 use native.Mathlib.Omega.{arith}
 use lib.ListN.{length, set, drop, getD, length-set}
-use lib.Seq.{sets, sets-eq, length-sets, getD-set-same, getD-set-other}
+use lib.Seq.{sets, sets-eq, length-sets, getD-set-same, getD-set-other, getD-append-add}
 use Rattle.le.proofs.Laws.{sets-append}
 use Rattle.chunk.specs.declared.Entry.{Entry}
 use Rattle.chunk.specs.Sources.{sourceNumber, sourceOf}
@@ -59,35 +59,21 @@ filled-tabled (x ∷ w) rows h =
 
 -- ---- rows read back
 
--- past a row stand the others
-row-later : (a b c d : ℕ) (l : List ℕ) (at : ℕ) → rowIn (at + 4) (a ∷ b ∷ c ∷ d ∷ l) ≡ rowIn at l
+-- past any words stand the rows that stand without them
+row-past : (xs l : List ℕ) (at : ℕ) → rowIn (length xs + at) (xs ++ l) ≡ rowIn at l
 unfolding rowIn
-row-later a b c d l at =
-    let e₀ : at + 4 ≡ suc (suc (suc (suc at))) = omega arith in
-    let e₁ : at + 4 + 1 ≡ suc (suc (suc (suc (at + 1)))) = omega arith in
-    let e₂ : at + 4 + 2 ≡ suc (suc (suc (suc (at + 2)))) = omega arith in
-    let e₃ : at + 4 + 3 ≡ suc (suc (suc (suc (at + 3)))) = omega arith in
+row-past xs l at =
     λ i. record {
-      name = getD (a ∷ b ∷ c ∷ d ∷ l) (e₀ i) 0;
-      place = getD (a ∷ b ∷ c ∷ d ∷ l) (e₁ i) 0;
-      size = getD (a ∷ b ∷ c ∷ d ∷ l) (e₂ i) 0;
-      source = sourceOf (getD (a ∷ b ∷ c ∷ d ∷ l) (e₃ i) 0);
+      name = getD-append-add xs l at 0 i;
+      place = further 1 i;
+      size = further 2 i;
+      source = sourceOf (further 3 i);
     }
-
--- the number of rows stands ahead of them
-row-first : (n : ℕ) (l : List ℕ) (at : ℕ) → rowIn (1 + at) (n ∷ l) ≡ rowIn at l
-unfolding rowIn
-row-first n l at =
-    let e₀ : 1 + at ≡ suc at = omega arith in
-    let e₁ : 1 + at + 1 ≡ suc (at + 1) = omega arith in
-    let e₂ : 1 + at + 2 ≡ suc (at + 2) = omega arith in
-    let e₃ : 1 + at + 3 ≡ suc (at + 3) = omega arith in
-    λ i. record {
-      name = getD (n ∷ l) (e₀ i) 0;
-      place = getD (n ∷ l) (e₁ i) 0;
-      size = getD (n ∷ l) (e₂ i) 0;
-      source = sourceOf (getD (n ∷ l) (e₃ i) 0);
-    }
+  where
+    further : (k : ℕ) → getD (xs ++ l) (length xs + at + k) 0 ≡ getD l (at + k) 0
+    further k =
+        ap (λ (n : ℕ). getD (xs ++ l) n 0) (let e : length xs + at + k ≡ length xs + (at + k) = omega arith in e)
+        ∙ getD-append-add xs l (at + k) 0
 
 rows-row : (rows : List Entry) (more : List ℕ) (i : ℕ) → i < length rows
     → (e : Entry) × List·Memᴰ e rows × (rowIn (4 * i) (allWords rows ++ more) ≡ e)
@@ -100,12 +86,10 @@ rows-row (x ∷ xs) more zero h = (
 )
 rows-row (x ∷ xs) more (suc i) h =
     let r = rows-row xs more i (omega arith) in
-    let e : 4 * suc i ≡ 4 * i + 4 = omega arith in (
+    let e : 4 * suc i ≡ 4 + 4 * i = omega arith in (
       r .0,
       List·Memᴰ·tail (r .1),
-      ap (λ (k : ℕ). rowIn k (allWords (x ∷ xs) ++ more)) e
-          ∙ row-later (x .name) (x .place) (x .size) (sourceNumber (x .source)) (allWords xs ++ more) (4 * i)
-          ∙ r .2,
+      ap (λ (k : ℕ). rowIn k (allWords (x ∷ xs) ++ more)) e ∙ row-past (rowWords x) (allWords xs ++ more) (4 * i) ∙ r .2,
     )
 
 -- the i-th row of a table is one of its rows
@@ -115,7 +99,7 @@ unfolding tabled
 table-row rows w i h =
     let more : List ℕ = drop (1 + 4 * length rows) w in
     let r = rows-row rows more i h in
-    (r .0, r .1, row-first (length rows) (allWords rows ++ more) (4 * i) ∙ r .2)
+    (r .0, r .1, row-past (length rows ∷ []) (allWords rows ++ more) (4 * i) ∙ r .2)
 
 -- and the number of rows is its first word
 pub table-count : (rows : List Entry) (w : List ℕ) → getD (tabled rows w) 0 0 ≡ length rows
