@@ -257,7 +257,7 @@ fn zeros_after_a_history_are_not_shown() {
 /// A chunk as JSON has it: name, place, size, and where that came from.
 type Row = (String, u64, u64, String);
 
-/// Lays out chunks with their true sizes; `None` for the bytes of a sparse one.
+/// Lays out chunks with their true sizes; what the payload leaves of one is sparse.
 struct Sparse {
     file: File,
     at: u64,

@@ -92,19 +92,14 @@ rows-row (x ∷ xs) more (suc i) h =
       ap (λ (k : ℕ). rowIn k (allWords (x ∷ xs) ++ more)) e ∙ row-past (rowWords x) (allWords xs ++ more) (4 * i) ∙ r .2,
     )
 
--- the i-th row of a table is one of its rows
-pub table-row : (rows : List Entry) (w : List ℕ) (i : ℕ) → i < length rows
-    → (e : Entry) × List·Memᴰ e rows × (rowIn (1 + 4 * i) (tabled rows w) ≡ e)
+-- words that hold a table say how many rows it has, and the i-th is one of them
+pub table-row : (rows : List Entry) (w v : List ℕ) → v ≡ tabled rows w → (i : ℕ) → i < getD v 0 0
+    → (e : Entry) × List·Memᴰ e rows × (rowIn (1 + 4 * i) v ≡ e)
 unfolding tabled
-table-row rows w i h =
+table-row rows w v is i h =
     let more : List ℕ = drop (1 + 4 * length rows) w in
-    let r = rows-row rows more i h in
-    (r .0, r .1, row-past (length rows ∷ []) (allWords rows ++ more) (4 * i) ∙ r .2)
-
--- and the number of rows is its first word
-pub table-count : (rows : List Entry) (w : List ℕ) → getD (tabled rows w) 0 0 ≡ length rows
-unfolding tabled
-table-count rows w = refl
+    let r = rows-row rows more i (omega (arith, h, ap (λ (u : List ℕ). getD u 0 0) is)) in
+    (r .0, r .1, ap (rowIn (1 + 4 * i)) is ∙ row-past (length rows ∷ []) (allWords rows ++ more) (4 * i) ∙ r .2)
 
 -- a row that was stored is read back
 pub row-back : (w : List ℕ) (at : ℕ) (e : Entry) → at + 4 ≤ length w → rowIn at (sets w at (rowWords e)) ≡ e

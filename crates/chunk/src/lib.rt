@@ -113,7 +113,7 @@ pub enum Source {
 }
 
 impl Source {
-    // 0, 1, or 2 and the position.
+    // 0, 1, and for an entry 2 + its position.
     pub fn number(self) -> u64
         ensures { λ r. ⌜ r ≡ sourceNumber self ⌝ }
     {

@@ -21,7 +21,6 @@ use Rattle.chunk.specs.declared.Verdict.{Verdict}
 use Rattle.chunk.specs.declared.Verdict.the-variants.{Accepted, Refused}
 use Rattle.chunk.specs.Refusals.{verdictNumber, verdictOf, Answer, refused, given}
 use Rattle.chunk.specs.Names.{DATA}
-use Rattle.chunk.specs.Fields.{ONES}
 use Rattle.chunk.specs.Sources.{sourceNumber, sourceOf}
 use Rattle.chunk.specs.Tables.{allWords, tabled, rowIn, WORDS}
 use Rattle.chunk.specs.Walks.{Walked}
@@ -30,9 +29,11 @@ use Rattle.chunk.specs.declared.Written.the-variants as written
 use Rattle.chunk.specs.Writes.{writtenOf, writtenNumber}
 use Rattle.chunk.proofs.Checks.{given-inj, pick-true, check-given, check-true}
 use Rattle.chunk.proofs.Sources.{source-back, number-back}
-use Rattle.chunk.proofs.Filled.{table-row, table-count}
+use Rattle.chunk.proofs.Laid.{row-size}
+use Rattle.chunk.proofs.Filled.{table-row}
 use Rattle.chunk.proofs.Outputs.{puts-front}
 use Rattle.form.specs.declared.Form.{Form}
+use Rattle.form.specs.declared.Ds64.{Ds64}
 use Rattle.form.specs.declared.Form.the-variants.{Riff}
 use Rattle.fmt.specs.declared.Reading as fmt
 use Rattle.fmt.specs.declared.Reading.the-variants as fmt-reading
@@ -52,7 +53,7 @@ use Rattle.chna.proofs.RoundTrip.{bytes-read-back as chna-reads-back, read-then
 use Rattle.chna.proofs.Pads.{zeroed-length}
 use Rattle.chna.specs.Records.{chnaIn, padsZeroed, readAs as chnaRead, chnaNumber, chnaValues, wholeOf}
 use Rattle.truesize.specs.Sizes.{Ds64Entry, entriesOf}
-use Rattle.truesize.specs.Told.{FirstEntry}
+use Rattle.truesize.specs.Told.{Marks}
 use Rattle.wave.specs.Scans.{Scan, scan, rowsOf, walk32}
 use Rattle.wave.specs.Tables.{ownField}
 use Rattle.wave.specs.Demand3.{SaysOwn}
@@ -199,6 +200,12 @@ scanned s w w' a =
     let x = accepted (scan s) (g .number) in
     record { by = x .0; is = x .1; table = g .words ∙ ap (λ (y : Answer Scan). tabled (rowsOf y) w) (x .1) }
 
+-- the table is that of the scan, which is one
+scan-table : (s w w' : List ℕ) (a : Scan) → Scans s w 0 w' → scan s ≡ given a → w' ≡ tabled (a .rows) w
+scan-table s w w' a h e =
+    let x = scanned s w w' h in
+    x .table ∙ ap (λ (y : Scan). tabled (y .rows) w) (given-inj _ _ (sym (x .is) ∙ e))
+
 -- what a scan returns of a file that is known to be accepted, and a walk of what is known of it
 scan-is : (s v : List ℕ) (q : ℕ) (v' : List ℕ) (a : Scan) → scan s ≡ given a → WORDS ≤ length v → Scans s v q v'
     → (q ≡ 0) × (v' ≡ tabled (a .rows) v)
@@ -332,14 +339,13 @@ fourth : (at : ℕ) (w : List ℕ) → getD w (at + 3) 0 ≡ sourceNumber (rowIn
 unfolding rowIn
 fourth at w = sym (number-back (getD w (at + 3) 0))
 
-fourth-word : (s : List ℕ) (ks : List Ds64Entry) (e : Entry) (k : ℕ) → k ≡ sourceNumber (e .source)
-    → (e .source ≡ Own) ↔ (ownField s e ≡ ONES → ⊥) → (e .source ≡ DataSize) ↔ ((e .name ≡ DATA) × (ownField s e ≡ ONES))
-    → ((p : ℕ) → e .source ≡ EntryAt p → FirstEntry (e .name) p (e .size) ks) → FourthWord s ks e k
-fourth-word s ks e k n own audio entry =
+fourth-word : (s : List ℕ) (d : Ds64) (ks : List Ds64Entry) (e : Entry) (k : ℕ) → k ≡ sourceNumber (e .source)
+    → Marks d ks (e .name) (ownField s e) (row-size e) → FourthWord s ks e k
+fourth-word s d ks e k n m =
     record {
-      own = ((λ z. own .0 (told Own z)), λ o. n ∙ ap sourceNumber (own .1 o));
-      audio = ((λ z. audio .0 (told DataSize z)), λ o. n ∙ ap sourceNumber (audio .1 o));
-      entry = λ p z. entry p (told (EntryAt p) z);
+      own = ((λ z. m .plain .0 (told Own z)), λ o. n ∙ ap sourceNumber (m .plain .1 o));
+      audio = ((λ z. m .audio .0 (told DataSize z)), λ o. n ∙ ap sourceNumber (m .audio .1 o));
+      entry = λ p z. m .entry p (told (EntryAt p) z);
     }
   where
     told : (x : Source) → k ≡ sourceNumber x → e .source ≡ x
@@ -348,26 +354,17 @@ fourth-word s ks e k n own audio entry =
 sources : (s w w' : List ℕ) (a : Scan) → Scans s w 0 w' → scan s ≡ given a → (i : ℕ) → i < getD w' 0 0
     → FourthWord s (entriesOf (a .head) s) (rowIn (1 + 4 * i) w') (getD w' (1 + 4 * i + 3) 0)
 sources s w w' a h e i l =
-    let x = scanned s w w' h in
-    let same : x .by ≡ a = given-inj _ _ (sym (x .is) ∙ e) in
-    let is : w' ≡ tabled (a .rows) w = x .table ∙ ap (λ (y : Scan). tabled (y .rows) w) same in
-    let few : i < length (a .rows) = omega (arith, l, ap (λ (v : List ℕ). getD v 0 0) is, table-count (a .rows) w) in
-    let r = table-row (a .rows) w i few in
-    let row : rowIn (1 + 4 * i) w' ≡ r .0 = ap (rowIn (1 + 4 * i)) is ∙ r .2 in
-    let t = tables s a e in
-    subst (λ (y : Entry). FourthWord s (entriesOf (a .head) s) y (getD w' (1 + 4 * i + 3) 0)) (sym row)
-    (fourth-word s (entriesOf (a .head) s) (r .0) _ (fourth (1 + 4 * i) w' ∙ ap (λ (y : Entry). sourceNumber (y .source)) row)
-    (t .ownMark (r .0) (r .1)) (t .dataMark (r .0) (r .1)) (t .entryMark (r .0) (r .1)))
+    let r = table-row (a .rows) w w' (scan-table s w w' a h e) i l in
+    subst (λ (y : Entry). FourthWord s (entriesOf (a .head) s) y (getD w' (1 + 4 * i + 3) 0)) (sym (r .2))
+    (fourth-word s (a .head .ds64) (entriesOf (a .head) s) (r .0) _
+    (fourth (1 + 4 * i) w' ∙ ap (λ (y : Entry). sourceNumber (y .source)) (r .2)) (tables s a e .marks (r .0) (r .1)))
 
 -- rows that say own field have 0 there
 own-words : (rows : List Entry) (w w' : List ℕ) → w' ≡ tabled rows w → ((e : Entry) → List·Memᴰ e rows → e .source ≡ Own)
     → (i : ℕ) → i < getD w' 0 0 → getD w' (1 + 4 * i + 3) 0 ≡ 0
 own-words rows w w' is own i k =
-    let few : i < length rows = omega (arith, k, ap (λ (v : List ℕ). getD v 0 0) is, table-count rows w) in
-    let x = table-row rows w i few in
-    fourth (1 + 4 * i) w'
-    ∙ ap (λ (y : Entry). sourceNumber (y .source)) (ap (rowIn (1 + 4 * i)) is ∙ x .2)
-    ∙ ap sourceNumber (own (x .0) (x .1))
+    let x = table-row rows w w' is i k in
+    fourth (1 + 4 * i) w' ∙ ap (λ (y : Entry). sourceNumber (y .source)) (x .2) ∙ ap sourceNumber (own (x .0) (x .1))
 
 walk-own : (s v : List ℕ) (r : ℕ) (v' : List ℕ) → WORDS ≤ length v → Walks32 s v r v' → (i : ℕ) → i < getD v' 0 0
     → getD v' (1 + 4 * i + 3) 0 ≡ 0
@@ -379,10 +376,7 @@ unfolding writtenIn AcceptsExactly wholeOf
 promise-2 =
     record {
       accepts = accepts;
-      table = λ s w w' a b h g.
-          let x = scanned s w w' h in
-          let same : x .by ≡ a = given-inj _ _ (sym (x .is) ∙ accepts-exactly s b a .1 g) in
-          x .table ∙ ap (λ (y : Scan). tabled (y .rows) w) same;
+      table = λ s w w' a b h g. scan-table s w w' a h (accepts-exactly s b a .1 g);
       in-place = λ a out w out' w' h. let k = wrote-out a out w out' w' h in record { fits = k .fits; rest = k .output };
       fmt-back = fmt-back;
       bext-back = bext-back;
@@ -478,8 +472,5 @@ promise-3 =
     record {
       own = walk-own;
       first = first;
-      second = λ t s w w' a r u b k e riff h.
-          let x = scanned s w w' k in
-          let same : x .by ≡ a = given-inj _ _ (sym (x .is) ∙ e) in
-          second-of t s w w' a r u b (x .table ∙ ap (λ (y : Scan). tabled (y .rows) w) same) e riff h;
+      second = λ t s w w' a r u b k e riff h. second-of t s w w' a r u b (scan-table s w w' a k e) e riff h;
     }

@@ -2,7 +2,7 @@
 -- Assumes nothing.
 use mathlib.Core.Path.{_≡_, refl, sym, ap, _∙_, subst}
 use mathlib.Core.Bool.{Bool, true, false}
-use mathlib.Core.Logic.{_⊎_, inl, inr, _↔_}
+use mathlib.Core.Logic.{_⊎_, inl, inr}
 use mathlib.Core.List.{List, [], _∷_, _++_, List·Memᴰ, List·Memᴰ·head, List·Memᴰ·tail, List·Memᴰ·not-nil, List·Memᴰ·cases-cons}
 use Prim.Native.Nat.{ℕ, _+_}
 use native.Mathlib.Nat.{add-zero, zero-add}
@@ -23,7 +23,7 @@ use Rattle.form.specs.declared.Form.{Form}
 use Rattle.form.specs.declared.Ds64.{Ds64}
 use Rattle.form.specs.declared.Head.{Head}
 use Rattle.truesize.specs.Sizes.{Ds64Entry, dataSize, sizeAt, entrySize, knownSize, onesSize, strayDs64, trueSize}
-use Rattle.truesize.specs.Told.{FirstEntry, Told}
+use Rattle.truesize.specs.Told.{FirstEntry, Told, Marks}
 use Rattle.truesize.proofs.Ds64Entries.{true-stray, true-field, true-ones}
 use Rattle.truesize.proofs.Sizes.{own-is, given-wide, ones-wide, known-data, known-other}
 
@@ -150,44 +150,42 @@ size-told h ks at name own t e =
 
 -- ---- what the source tells
 
-pub record Marks (ks : List Ds64Entry) (name own : ℕ) (t : TrueSize) : Type 0 where
-  pub plain : (t .source ≡ Own) ↔ (own ≡ ONES → ⊥)
-  pub audio : (t .source ≡ DataSize) ↔ ((name ≡ DATA) × (own ≡ ONES))
-  pub entry : (p : ℕ) → t .source ≡ EntryAt p → FirstEntry name p (t .bytes) ks
-
-pub told-marks : (f : Form) (d : Ds64) (ks : List Ds64Entry) (name own : ℕ) (t : TrueSize) → Told f d ks name own t → Marks ks name own t
-told-marks f d ks name own t g =
-    record {
-      plain = (λ p o. by-ds64 (λ (x : Source). x ≡ Own → ⊥) o (λ n e. omega (arith, ap sourceNumber e)) (λ q _ e. omega (arith, ap sourceNumber e)) p, λ n. g .plain n .1);
-      audio = (marked, λ a. g .audio (a .1) (a .0) .1);
-      entry = λ p e. entry p e (eqb own ONES) refl;
-    }
+pub told-marks : (f : Form) (d : Ds64) (ks : List Ds64Entry) (name own : ℕ) (t : TrueSize) → Told f d ks name own t → Marks d ks name own t
+told-marks f d ks name own t g = go (eqb own ONES) refl (eqb name DATA) refl
   where
-    -- the source of an all-ones field, on data and on another chunk
-    by-ds64 : (P : Source → Type 0) → own ≡ ONES → (name ≡ DATA → P DataSize) → ((q : ℕ) → (name ≡ DATA → ⊥) → P (EntryAt q)) → P (t .source)
-    by-ds64 P o a b = go (eqb name DATA) refl
-      where
-        go : (c : Bool) → eqb name DATA ≡ c → P (t .source)
-        go true e = let n = eqb-true name DATA e in subst P (sym (g .audio o n .1)) (a n)
-        go false e =
-            let n = eqb-false name DATA e in
-            let x = g .other o n in
-            subst P (sym (x .1)) (b (x .0) n)
+    -- one source has one number
+    one : (x y : Source) → t .source ≡ x → t .source ≡ y → sourceNumber x ≡ sourceNumber y
+    one x y p q = ap sourceNumber (sym p ∙ q)
 
-    marked : t .source ≡ DataSize → (name ≡ DATA) × (own ≡ ONES)
-    marked p = go (eqb own ONES) refl
-      where
-        go : (b : Bool) → eqb own ONES ≡ b → (name ≡ DATA) × (own ≡ ONES)
-        go true e =
-            let o = eqb-true own ONES e in
-            (by-ds64 (λ (x : Source). x ≡ DataSize → name ≡ DATA) o (λ n _. n) (λ q _ k. absurd (omega (arith, ap sourceNumber k))) p, o)
-        go false e = absurd (omega (arith, ap sourceNumber (sym (g .plain (eqb-false own ONES e) .1) ∙ p)))
-
-    entry : (p : ℕ) → t .source ≡ EntryAt p → (b : Bool) → eqb own ONES ≡ b → FirstEntry name p (t .bytes) ks
-    entry p e false k = absurd (omega (arith, ap sourceNumber (sym (g .plain (eqb-false own ONES k) .1) ∙ e)))
-    entry p e true k =
-        let o = eqb-true own ONES k in
-        let n : name ≡ DATA → ⊥ = λ d. absurd (omega (arith, ap sourceNumber (sym (g .audio o d .1) ∙ e))) in
-        let x = g .other o n in
-        let q : x .0 ≡ p = omega (arith, ap sourceNumber (sym (x .1) ∙ e)) in
-        subst (λ (i : ℕ). FirstEntry name i (t .bytes) ks) q (x .2)
+    go : (b : Bool) → eqb own ONES ≡ b → (c : Bool) → eqb name DATA ≡ c → Marks d ks name own t
+    go false h c k =
+        let n = eqb-false own ONES h in
+        let s = g .plain n .1 in
+        record {
+          plain = (λ _. n, λ _. s);
+          audio = (λ p. absurd (omega (arith, one Own DataSize s p)), λ a. absurd (n (a .1)));
+          given = λ p. absurd (omega (arith, one Own DataSize s p));
+          entry = λ i p. absurd (omega (arith, one Own (EntryAt i) s p));
+        }
+    go true h true k =
+        let o = eqb-true own ONES h in
+        let n = eqb-true name DATA k in
+        let s = g .audio o n in
+        record {
+          plain = (λ p. absurd (omega (arith, one DataSize Own (s .1) p)), λ m. absurd (m o));
+          audio = (λ _. (n, o), λ _. s .1);
+          given = λ _. s .0;
+          entry = λ i p. absurd (omega (arith, one DataSize (EntryAt i) (s .1) p));
+        }
+    go true h false k =
+        let o = eqb-true own ONES h in
+        let n = eqb-false name DATA k in
+        let s = g .other o n in
+        record {
+          plain = (λ p. absurd (omega (arith, one (EntryAt (s .0)) Own (s .1) p)), λ m. absurd (m o));
+          audio = (λ p. absurd (omega (arith, one (EntryAt (s .0)) DataSize (s .1) p)), λ a. absurd (n (a .0)));
+          given = λ p. absurd (omega (arith, one (EntryAt (s .0)) DataSize (s .1) p));
+          entry = λ i p.
+              let e : s .0 ≡ i = omega (arith, one (EntryAt (s .0)) (EntryAt i) (s .1) p) in
+              subst (λ (q : ℕ). FirstEntry name q (t .bytes) ks) e (s .2);
+        }

@@ -3,6 +3,7 @@
 use Prim.Native.Nat.{ℕ}
 use mathlib.Core.Path.{_≡_}
 use mathlib.Core.Bool.{true}
+use mathlib.Core.Logic.{_↔_}
 use mathlib.Core.List.{List, _∷_, _++_, List·Memᴰ}
 use lib.ListN.{length}
 use Rattle.chunk.specs.declared.TrueSize.{TrueSize}
@@ -31,3 +32,12 @@ pub record Told (form : Form) (d : Ds64) (ks : List Ds64Entry) (name own : ℕ) 
   pub wide : own ≡ ONES → isWide form ≡ true
   pub audio : own ≡ ONES → name ≡ DATA → (t .bytes ≡ d .«data_size») × (t .source ≡ DataSize)
   pub other : own ≡ ONES → (name ≡ DATA → ⊥) → (p : ℕ) × (t .source ≡ EntryAt p) × FirstEntry name p (t .bytes) ks
+
+-- What the source then tells: "own field", exactly where that isn't all ones; "ds64 data size", exactly for data with an
+-- all-ones field, and the size is ds64's; "or the position (from 0) of the ds64 entry used", where the first entry of the name
+-- stands, and its size is this one.
+pub record Marks (d : Ds64) (ks : List Ds64Entry) (name own : ℕ) (t : TrueSize) : Type 0 where
+  pub plain : (t .source ≡ Own) ↔ (own ≡ ONES → ⊥)
+  pub audio : (t .source ≡ DataSize) ↔ ((name ≡ DATA) × (own ≡ ONES))
+  pub given : t .source ≡ DataSize → t .bytes ≡ d .«data_size»
+  pub entry : (p : ℕ) → t .source ≡ EntryAt p → FirstEntry name p (t .bytes) ks

@@ -10,12 +10,10 @@ use Rattle.chunk.specs.declared.Entry.{Entry}
 use Rattle.chunk.specs.Refusals.{given}
 use Rattle.chunk.specs.Walks.{Rule, past}
 use Rattle.chunk.proofs.Laid.{row-size, Row, Laid, done, next, laid-lies}
-use Rattle.form.specs.declared.Head.{Head}
 use Rattle.form.proofs.Heads.{wide-head, ds64-rules}
 use Rattle.truesize.specs.Sizes.{trueSize, entriesOf}
-use Rattle.truesize.specs.Told.{Told}
 use Rattle.truesize.proofs.Sizes.{own-true, ds64-first}
-use Rattle.truesize.proofs.Told.{size-told, Marks, told-marks}
+use Rattle.truesize.proofs.Told.{size-told, told-marks}
 use Rattle.wave.specs.Scans.{Scan, scan}
 use Rattle.wave.specs.Tables.{ownField, EndToEnd, GoodTable}
 use Rattle.wave.proofs.Scanned.{scan-scanned}
@@ -35,16 +33,6 @@ pub laid-first : {rule : Rule} {s : List ℕ} {at : ℕ} (rows : List Entry) →
 laid-first [] (done h) k = absurd (k h)
 laid-first (e ∷ es) (next r l) k = (e, es, refl, r, l)
 
--- what the field and ds64 tell of a row
-told-of : (h : Head) {s : List ℕ} {rows : List Entry} → Laid (trueSize h (entriesOf h s)) s 12 rows → (e : Entry) → List·Memᴰ e rows
-    → Told (h .form) (h .ds64) (entriesOf h s) (e .name) (ownField s e) (row-size e)
-unfolding ownField
-told-of h {s} l e m = size-told h (entriesOf h s) (e .place - 8) (e .name) (ownField s e) (row-size e) (laid-lies l m .sized)
-
-marks-of : (h : Head) {s : List ℕ} {rows : List Entry} → Laid (trueSize h (entriesOf h s)) s 12 rows → (e : Entry) → List·Memᴰ e rows
-    → Marks (entriesOf h s) (e .name) (ownField s e) (row-size e)
-marks-of h {s} l e m = told-marks (h .form) (h .ds64) (entriesOf h s) (e .name) (ownField s e) (row-size e) (told-of h l e m)
-
 pub tables : (s : List ℕ) (a : Scan) → scan s ≡ given a → GoodTable s a
 unfolding ownField
 tables s a e =
@@ -59,10 +47,9 @@ tables s a e =
       apart = λ xs x ys h. laid-later xs x ys (subst (Laid rule s 12) h (l .laid));
       own = λ x m.
           own-true (a .head) ks (x .place - 8) (x .name) (ownField s x) _ (laid-lies (l .laid) m .sized);
-      ownMark = λ x m. marks-of (a .head) (l .laid) x m .plain;
-      dataMark = λ x m. marks-of (a .head) (l .laid) x m .audio;
-      dataGives = λ x m p. let d = marks-of (a .head) (l .laid) x m .audio .0 p in told-of (a .head) (l .laid) x m .audio (d .1) (d .0) .0;
-      entryMark = λ x m. marks-of (a .head) (l .laid) x m .entry;
+      marks = λ x m.
+          told-marks (a .head .form) (a .head .ds64) ks (x .name) (ownField s x) (row-size x)
+          (size-told (a .head) ks (x .place - 8) (x .name) (ownField s x) (row-size x) (laid-lies (l .laid) m .sized));
       oneFmt = l .chunked .oneFmt;
       oneData = l .chunked .oneData;
       fmtFirst = l .chunked .fmtFirst;

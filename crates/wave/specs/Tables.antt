@@ -2,19 +2,17 @@
 use Prim.Native.Nat.{ℕ, _+_, _-_, _≤_, _<_}
 use mathlib.Core.Path.{_≡_}
 use mathlib.Core.Bool.{true}
-use mathlib.Core.Logic.{_↔_}
 use mathlib.Core.List.{List, [], _∷_, _++_, List·Memᴰ}
 use lib.ListN.{length}
 use Rattle.le.specs.Number.{number}
 use Rattle.chunk.specs.declared.Entry.{Entry}
-use Rattle.chunk.specs.declared.Source.the-variants.{Own, DataSize, EntryAt}
 use Rattle.chunk.specs.Names.{DS64, FMT, DATA}
 use Rattle.chunk.specs.Fields.{ONES}
 use Rattle.chunk.specs.Tables.{count, find, LIMIT}
 use Rattle.chunk.specs.Walks.{past}
 use Rattle.form.specs.Forms.{isWide}
 use Rattle.truesize.specs.Sizes.{entriesOf}
-use Rattle.truesize.specs.Told.{FirstEntry}
+use Rattle.truesize.specs.Told.{Marks}
 use Rattle.wave.specs.Scans.{Scan}
 
 -- a chunk's own size field, the four bytes ahead of its payload
@@ -40,14 +38,10 @@ pub record GoodTable (s : List ℕ) (a : Scan) : Type 0 where
       → (f : Entry) → List·Memᴰ f ys → past e ≤ f .place - 8
   -- "A size field that is not all ones is the true size."
   pub own : (e : Entry) → List·Memᴰ e (a .rows) → (ownField s e ≡ ONES → ⊥) → e .size ≡ ownField s e
-  -- "Every table entry should say" (document 02): "own field", exactly where that isn't all ones; "ds64 data size", exactly for
-  -- data with an all-ones field, and the size is ds64's; "or the position (from 0) of the ds64 entry used", where the first entry
-  -- of the row's name stands, and its size is the row's
-  pub ownMark : (e : Entry) → List·Memᴰ e (a .rows) → (e .source ≡ Own) ↔ (ownField s e ≡ ONES → ⊥)
-  pub dataMark : (e : Entry) → List·Memᴰ e (a .rows) → (e .source ≡ DataSize) ↔ ((e .name ≡ DATA) × (ownField s e ≡ ONES))
-  pub dataGives : (e : Entry) → List·Memᴰ e (a .rows) → e .source ≡ DataSize → e .size ≡ a .head .ds64 .«data_size»
-  pub entryMark : (e : Entry) → List·Memᴰ e (a .rows) → (p : ℕ) → e .source ≡ EntryAt p
-      → FirstEntry (e .name) p (e .size) (entriesOf (a .head) s)
+  -- "Every table entry should say: own field, ds64 data size, or the position (from 0) of the ds64 entry used" (document 02), and
+  -- what each says is so (truesize/specs/Told)
+  pub marks : (e : Entry) → List·Memᴰ e (a .rows)
+      → Marks (a .head .ds64) (entriesOf (a .head) s) (e .name) (ownField s e) (record { bytes = e .size; source = e .source })
   -- "exactly one fmt and one data, fmt first"
   pub oneFmt : count FMT (a .rows) ≡ 1
   pub oneData : count DATA (a .rows) ≡ 1
