@@ -3,11 +3,11 @@
 // A chunk is a 4-byte name, a 32-bit size field, its payload, and one pad byte where the payload is odd.
 pub mod steps;
 
-ghost use Rattle.std.specs.Prelude.{◌≡◌, ◌+◌, ◌^◌, ◌≤◌, ◌<◌, [], length, drop, get_or};
+ghost use Rattle.std.specs.Prelude.{◌≡◌, ◌+◌, ◌^◌, ◌≤◌, ◌<◌, [], length, get_or};
 ghost use Rattle.std.proofs.lemmas.List.Edits.{sets};
 ghost use Rattle.chunk.specs.Refusals.{refusal_number, verdict_number};
 ghost use Rattle.chunk.specs.Sources.{source_number, source_of};
-ghost use Rattle.chunk.specs.Tables.{table_of, row_words, row_in, begins};
+ghost use Rattle.chunk.specs.Tables.{table_of, row_words, row_in};
 ghost use Rattle.chunk.specs.Walks.{field_size};
 
 // Why a file or a record is refused: document 01's table, in its order.
@@ -51,8 +51,6 @@ pub enum Refusal {
     Already64,
     // 19: the first chunk is no JUNK of 28 bytes or more.
     NoReserve,
-    // 24: the words are no fresh listing of the file, or it has none.
-    StaleListing,
 }
 
 impl Refusal {
@@ -80,7 +78,6 @@ impl Refusal {
             Refusal::ShortOutput => 15,
             Refusal::Already64 => 18,
             Refusal::NoReserve => 19,
-            Refusal::StaleListing => 24,
         }
     }
 }
@@ -189,24 +186,6 @@ pub fn put_row(words: &mut [u64], at: usize, e: Entry)
     words[at + 2] = e.size;
     let source = e.source;
     words[at + 3] = source.number();
-}
-
-// Whether the row that starts at a word is an entry's, word for word.
-pub fn is_row(words: &[u64], at: usize, e: Entry) -> bool
-    requires { at + 4 ≤ length words.now }
-    ensures { result ≡ begins (row_words e) (drop at words.now) }
-{
-    if words[at] != e.name {
-        return false;
-    }
-    if words[at + 1] != e.place {
-        return false;
-    }
-    if words[at + 2] != e.size {
-        return false;
-    }
-    let source = e.source;
-    words[at + 3] == source.number()
 }
 
 // The source that a number tells.

@@ -11,6 +11,7 @@ use lib.Dec.{eqb}
 use borrow.Author.Tests.{eqb-true, eqb-false}
 use Rattle.le.specs.Number.{number}
 use Rattle.chunk.specs.declared.Entry.{Entry}
+use Rattle.chunk.specs.declared.Header.{Header}
 use Rattle.chunk.specs.declared.Refusal.{Refusal}
 use Rattle.chunk.specs.declared.Refusal.TheVariants.{BadChunkSet, CutHeader}
 use Rattle.chunk.specs.declared.Verdict.{Verdict}
@@ -19,6 +20,7 @@ use Rattle.chunk.specs.Refusals.{Answer, refused, given, check}
 use Rattle.chunk.specs.Names.{DS64}
 use Rattle.chunk.specs.Tables.{count, LIMIT}
 use Rattle.chunk.specs.Walks.{Walked, entry_of, field_size, past, walk}
+use Rattle.chunk.specs.Code.{header_of}
 use Rattle.chunk.proofs.Checks.{picked, pick_true, pick-false, check-true, check-false, and_then-at, and_then-refused}
 use Rattle.chunk.proofs.Turns.{step_cut}
 use Rattle.chunk.proofs.Laid.{Row, step_row, step_end, walk-chunk, walk-stop, walk-laid}
@@ -37,7 +39,7 @@ use Rattle.listing.specs.declared.headers.Tallied.TheVariants as tallied
 use Rattle.listing.specs.declared.Listing as code
 use Rattle.listing.specs.declared.Listed.TheVariants as listed
 use Rattle.listing.specs.Listings.{ended_as, chunks_good, Listing, headers, listing}
-use Rattle.listing.specs.Code.{all_noted, no_tally, tally_good, rule, rest_of, tally_as, kept_of, listed_as, Fresh, chunks_as, bare_as}
+use Rattle.listing.specs.Code.{all_noted, no_tally, tally_good, rule, rest_of, tally_as, kept_of, listed_as, chunks_as, bare_as}
 use Rattle.listing.proofs.Checked.{good-chunked}
 use Rattle.listing.proofs.Tallied.{noted-ds64, all-fmt, all-audio, tally-good, tally-fact}
 
@@ -140,52 +142,53 @@ listing-rows s h e q =
 
 -- ---- what a walk to the end has noted
 
-record Notes (n : ℕ) (t : Tally) (w : Walked) (x : Noted) : Type 0 where
+record Notes (first : Header) (n : ℕ) (t : Tally) (w : Walked) (x : Noted) : Type 0 where
   pub end : w.end ≡ Accepted
-  pub is : x ≡ record { tally = all_noted t w.rows; count = n + length w.rows }
+  pub is : x ≡ record { tally = all_noted t w.rows; first = first; count = n + length w.rows }
 
-noted-told : (n : ℕ) (t : Tally) (w : Walked) (x : Noted) → tally_as n t w ≡ tallied.Noted x → Notes n t w x
+noted-told : (first : Header) (n : ℕ) (t : Tally) (w : Walked) (x : Noted) → tally_as first n t w ≡ tallied.Noted x → Notes first n t w x
 unfolding tally_as
-noted-told n t w x = go w.rows w.end
+noted-told first n t w x = go w.rows w.end
   where
-    go : (rows : List Entry) (v : Verdict) → tally_as n t (record { rows = rows; end = v }) ≡ tallied.Noted x
-        → Notes n t (record { rows = rows; end = v }) x
+    go : (rows : List Entry) (v : Verdict) → tally_as first n t (record { rows = rows; end = v }) ≡ tallied.Noted x
+        → Notes first n t (record { rows = rows; end = v }) x
     go rows Accepted e = record { end = refl; is = cc }
     go rows (Refused r) e = absurd (let z : ◌≡◌ {A = ℕ} 0 1 = cc in omega arith)
 
-refused-told : (n : ℕ) (t : Tally) (w : Walked) (r : Refusal) → tally_as n t w ≡ tallied.Refused r → w.end ≡ Refused r
+refused-told : (first : Header) (n : ℕ) (t : Tally) (w : Walked) (r : Refusal) → tally_as first n t w ≡ tallied.Refused r → w.end ≡ Refused r
 unfolding tally_as
-refused-told n t w r = go w.rows w.end
+refused-told first n t w r = go w.rows w.end
   where
-    go : (rows : List Entry) (v : Verdict) → tally_as n t (record { rows = rows; end = v }) ≡ tallied.Refused r → v ≡ Refused r
+    go : (rows : List Entry) (v : Verdict) → tally_as first n t (record { rows = rows; end = v }) ≡ tallied.Refused r → v ≡ Refused r
     go rows Accepted e = absurd (let z : ◌≡◌ {A = ℕ} 0 1 = cc in omega arith)
     go rows (Refused q) e = cc
 
 -- check 10 of all chunks is check 10 of their tally
-chunks-all : (h : Head) (rows : List Entry) → length rows ≤ LIMIT
-    → chunks_as h (record { tally = all_noted no_tally rows; count = length rows })
-    ≡ listed_as (check (chunks_good rows) BadChunkSet (given (record { head = h; rows = rows })))
+chunks-all : (s : List ℕ) (h : Head) (rows : List Entry) → length rows ≤ LIMIT
+    → chunks_as h (record { tally = all_noted no_tally rows; first = header_of (place_of h.form s) s; count = length rows })
+    ≡ listed_as s (check (chunks_good rows) BadChunkSet (given (record { head = h; rows = rows })))
 unfolding chunks_as listed_as kept_of
-chunks-all h rows few = go (chunks_good rows) refl
+chunks-all s h rows few = go (chunks_good rows) refl
   where
     go : (b : Bool) → chunks_good rows ≡ b
-        → chunks_as h (record { tally = all_noted no_tally rows; count = length rows })
-        ≡ listed_as (check (chunks_good rows) BadChunkSet (given (record { head = h; rows = rows })))
+        → chunks_as h (record { tally = all_noted no_tally rows; first = header_of (place_of h.form s) s; count = length rows })
+        ≡ listed_as s (check (chunks_good rows) BadChunkSet (given (record { head = h; rows = rows })))
     go false g =
         pick-false (tally_good (all_noted no_tally rows)) _ _ (tally-good rows few ∙ g)
-        ∙ sym (ap listed_as (check-false (chunks_good rows) BadChunkSet _ g))
+        ∙ sym (ap (listed_as s) (check-false (chunks_good rows) BadChunkSet _ g))
     go true g =
         let c = good-chunked rows g in
         pick_true (tally_good (all_noted no_tally rows)) _ _ (tally-good rows few ∙ g)
         ∙ (λ i. listed.Listing
         (record {
           head = h;
+          first = header_of (place_of h.form s) s;
           fmt = all-fmt rows c.one_fmt i;
           audio = all-audio rows c.one_data i;
           fact = tally-fact rows few c.fact i;
           count = length rows;
         }))
-        ∙ sym (ap listed_as (check-true (chunks_good rows) BadChunkSet (given (record { head = h; rows = rows })) g))
+        ∙ sym (ap (listed_as s) (check-true (chunks_good rows) BadChunkSet (given (record { head = h; rows = rows })) g))
 
 -- ---- the outcomes of the listing past its head
 
@@ -194,21 +197,21 @@ module _ (s : List ℕ) (o : Start) (b : Starts s (head_of s) o) where
   unfolding headers
   few e = (walk-laid (rule o.head s) s LIMIT 12 e).few
 
-  pub list_refused : (n : ℕ) (r : Refusal) → tally_as n no_tally (rest_of o s) ≡ tallied.Refused r
+  pub list-refused : (first : Header) (n : ℕ) (r : Refusal) → tally_as first n no_tally (rest_of o s) ≡ tallied.Refused r
       → listing s ≡ refused r
-  list_refused n r e =
-      listing-walk s o.head r b.head ((beside s o b).end ∙ refused-told n no_tally (rest_of o s) r e)
+  list-refused first n r e =
+      listing-walk s o.head r b.head ((beside s o b).end ∙ refused-told first n no_tally (rest_of o s) r e)
 
-  pub list-noted : (n : Noted) → tally_as (LIMIT - o.room) no_tally (rest_of o s) ≡ tallied.Noted n
-      → chunks_as o.head n ≡ listed_as (listing s)
+  pub list-noted : (n : Noted) → tally_as (header_of o.place s) (LIMIT - o.room) no_tally (rest_of o s) ≡ tallied.Noted n
+      → chunks_as o.head n ≡ listed_as s (listing s)
   list-noted n e =
-      let t = noted-told _ _ _ n e in
+      let t = noted-told _ _ _ _ n e in
       let k = beside s o b in
       ap (chunks_as o.head)
       (t.is
-      ∙ (λ i. record { tally = sym k.tally i; count = sym k.count i }))
-      ∙ chunks-all o.head (headers o.head s).rows (few (k.end ∙ t.end))
-      ∙ sym (ap listed_as (listing-rows s o.head b.head (k.end ∙ t.end)))
+      ∙ (λ i. record { tally = sym k.tally i; first = header_of (b.place i) s; count = sym k.count i }))
+      ∙ chunks-all s o.head (headers o.head s).rows (few (k.end ∙ t.end))
+      ∙ sym (ap (listed_as s) (listing-rows s o.head b.head (k.end ∙ t.end)))
 
   -- no header past ds64
   list-none : o.place - 8 ≡ length s → listing s ≡ refused BadChunkSet
@@ -243,20 +246,17 @@ module _ (s : List ℕ) (o : Start) (b : Starts s (head_of s) o) where
 
 -- ---- what a listing tells
 
-pub listed-refused : (x : Answer Listing) (r : Refusal) → listed_as x ≡ listed.Refused r → x ≡ refused r
+pub listed-refused : (s : List ℕ) (x : Answer Listing) (r : Refusal) → listed_as s x ≡ listed.Refused r → x ≡ refused r
 unfolding listed_as
-listed-refused (refused q) r e = cc
-listed-refused (given l) r e = absurd (let z : ◌≡◌ {A = ℕ} 0 1 = cc in omega arith)
+listed-refused s (refused q) r e = cc
+listed-refused s (given l) r e = absurd (let z : ◌≡◌ {A = ℕ} 0 1 = cc in omega arith)
 
-pub record Keeps (x : Answer Listing) (k : code.Listing) : Type 0 where
+pub record Keeps (s : List ℕ) (x : Answer Listing) (k : code.Listing) : Type 0 where
   pub listing : Listing
   pub is : x ≡ given listing
-  pub kept : k ≡ kept_of listing
+  pub kept : k ≡ kept_of s listing
 
-pub listed-given : (x : Answer Listing) (k : code.Listing) → listed_as x ≡ listed.Listing k → Keeps x k
+pub listed-given : (s : List ℕ) (x : Answer Listing) (k : code.Listing) → listed_as s x ≡ listed.Listing k → Keeps s x k
 unfolding listed_as
-listed-given (refused q) k e = absurd (let z : ◌≡◌ {A = ℕ} 0 1 = cc in omega arith)
-listed-given (given l) k e = record { listing = l; is = refl; kept = cc }
-
-abbrev pub keeps : (s : List ℕ) (k : code.Listing) → Fresh s k → Keeps (listing s) k
-keeps s k f = listed-given (listing s) k f
+listed-given s (refused q) k e = absurd (let z : ◌≡◌ {A = ℕ} 0 1 = cc in omega arith)
+listed-given s (given l) k e = record { listing = l; is = refl; kept = cc }

@@ -14,6 +14,7 @@ use Rattle.le.specs.Number.{Bytes, number}
 use Rattle.le.specs.Choice.{pick}
 use Rattle.le.proofs.Laws.{number-split, number-one}
 use Rattle.chunk.specs.declared.Entry.{Entry}
+use Rattle.chunk.specs.declared.Header.{Header}
 use Rattle.chunk.specs.declared.Refusal.{Refusal}
 use Rattle.chunk.specs.declared.Refusal.TheVariants.{CutHeader, TooMany}
 use Rattle.chunk.specs.declared.Verdict.{Verdict}
@@ -40,7 +41,7 @@ use Rattle.listing.specs.declared.Payload.{Payload}
 use Rattle.listing.specs.declared.tally.Tally.{Tally}
 use Rattle.listing.specs.declared.headers.Passed.{Passed}
 use Rattle.listing.specs.declared.headers.Tallied.TheVariants as tallied
-use Rattle.listing.specs.Code.{payload_of, changes, counts, heavy, weight, noted, all_noted, no_tally, Small, facts_of, tally_good, Near, next_of, passes, passed_from, Nears, rule, rest_of, Begins, tally_as}
+use Rattle.listing.specs.Code.{payload_of, changes, counts, heavy, weight, noted, all_noted, no_tally, Small, facts_of, tally_good, Near, next_of, passes, passed_from, Nears, rule, Begins, tally_as}
 
 -- ---- one chunk more
 
@@ -288,39 +289,39 @@ module _ (s : List ℕ) (near : ℕ) where
 
 -- ---- what a walk tallies
 
-tally-rows : (n : ℕ) (t : Tally) (e : Entry) (rows : List Entry) (v : Verdict)
-    → tally_as n t (record { rows = e ∷ rows; end = v }) ≡ tally_as (n + 1) (noted t e) (record { rows = rows; end = v })
+tally-rows : (f : Header) (n : ℕ) (t : Tally) (e : Entry) (rows : List Entry) (v : Verdict)
+    → tally_as f n t (record { rows = e ∷ rows; end = v }) ≡ tally_as f (n + 1) (noted t e) (record { rows = rows; end = v })
 unfolding tally_as all_noted
-tally-rows n t e rows verdict.Accepted =
-    ap (λ (k : ℕ). tallied.Noted (record { tally = all_noted (noted t e) rows; count = k })) (omega arith)
-tally-rows n t e rows (verdict.Refused r) = refl
+tally-rows f n t e rows verdict.Accepted =
+    ap (λ (k : ℕ). tallied.Noted (record { tally = all_noted (noted t e) rows; first = f; count = k })) (omega arith)
+tally-rows f n t e rows (verdict.Refused r) = refl
 
 -- the walk's first row is noted
-pub tally-chunk : (n : ℕ) (t : Tally) (e : Entry) (w : Walked)
-    → tally_as n t (record { rows = e ∷ w.rows; end = w.end }) ≡ tally_as (n + 1) (noted t e) w
-tally-chunk n t e w = tally-rows n t e w.rows w.end
+pub tally-chunk : (f : Header) (n : ℕ) (t : Tally) (e : Entry) (w : Walked)
+    → tally_as f n t (record { rows = e ∷ w.rows; end = w.end }) ≡ tally_as f (n + 1) (noted t e) w
+tally-chunk f n t e w = tally-rows f n t e w.rows w.end
 
-pub tally-full : (n : ℕ) (t : Tally) (at : ℕ) → tally_as n t (full at) ≡ tallied.Refused TooMany
+pub tally-full : (f : Header) (n : ℕ) (t : Tally) (at : ℕ) → tally_as f n t (full at) ≡ tallied.Refused TooMany
 unfolding tally_as full
-tally-full n t at = refl
+tally-full f n t at = refl
 
 -- ---- the step after which no header may come
 
-module _ (n : ℕ) (t : Tally) (x : Step) where
-  pub last-chunk : (e : Entry) (to : ℕ) → x ≡ step.Chunk e to → tallied.Refused TooMany ≡ tally_as n t (walk_after x full)
+module _ (f : Header) (n : ℕ) (t : Tally) (x : Step) where
+  pub last-chunk : (e : Entry) (to : ℕ) → x ≡ step.Chunk e to → tallied.Refused TooMany ≡ tally_as f n t (walk_after x full)
   unfolding tally_as walk_after full
   last-chunk e to q = rw q
 
   pub last-last : (e : Entry) (u : Tally) → x ≡ step.Last e → u ≡ noted t e
-      → tallied.Noted (record { tally = u; count = n + 1 }) ≡ tally_as n t (walk_after x full)
+      → tallied.Noted (record { tally = u; first = f; count = n + 1 }) ≡ tally_as f n t (walk_after x full)
   unfolding tally_as walk_after all_noted
   last-last e u q p = rw (q, p)
 
-  pub last-cut : (e : Entry) → x ≡ step.Cut e → tallied.Refused CutHeader ≡ tally_as n t (walk_after x full)
+  pub last-cut : (e : Entry) → x ≡ step.Cut e → tallied.Refused CutHeader ≡ tally_as f n t (walk_after x full)
   unfolding tally_as walk_after
   last-cut e q = rw q
 
-  pub last-stop : (r : Refusal) → x ≡ step.Stop r → tallied.Refused r ≡ tally_as n t (walk_after x full)
+  pub last-stop : (r : Refusal) → x ≡ step.Stop r → tallied.Refused r ≡ tally_as f n t (walk_after x full)
   unfolding tally_as walk_after
   last-stop r q = rw q
 
@@ -366,46 +367,46 @@ module _ (h : Head) (s : List ℕ) (b : Bytes s) where
         (unnamed FACT (omega arith) (omega arith)) (unnamed BEXT (omega arith) (omega arith)) (unnamed CHNA (omega arith) (omega arith)))
 
     -- one of them
-    passes-tally : (n room : ℕ) (t : Tally)
-        → tally_as n t (walk (rule h s) s (suc room) (place - 8)) ≡ tally_as (n + 1) t (walk (rule h s) s room (next_of place s - 8))
+    passes-tally : (f : Header) (n room : ℕ) (t : Tally)
+        → tally_as f n t (walk (rule h s) s (suc room) (place - 8)) ≡ tally_as f (n + 1) t (walk (rule h s) s room (next_of place s - 8))
     unfolding walk_after
-    passes-tally n room t =
-        ap (tally_as n t) (turn (rule h s) s room place d.due ∙ ap (λ (x : Step). walk_after x (walk (rule h s) s room)) passes-step)
-        ∙ tally-chunk n t entry (walk (rule h s) s room (next_of place s - 8))
-        ∙ ap (λ (u : Tally). tally_as (n + 1) u (walk (rule h s) s room (next_of place s - 8))) (passes-noted t)
+    passes-tally f n room t =
+        ap (tally_as f n t) (turn (rule h s) s room place d.due ∙ ap (λ (x : Step). walk_after x (walk (rule h s) s room)) passes-step)
+        ∙ tally-chunk f n t entry (walk (rule h s) s room (next_of place s - 8))
+        ∙ ap (λ (u : Tally). tally_as f (n + 1) u (walk (rule h s) s room (next_of place s - 8))) (passes-noted t)
 
   -- a run of them, where room headers more may come
-  pub record Skips (near : ℕ) (t : Tally) (room place : ℕ) (p : Passed) : Type 0 where
+  pub record Skips (near : ℕ) (f : Header) (t : Tally) (room place : ℕ) (p : Passed) : Type 0 where
     pub nears : Nears s near p.place
     pub on : place ≤ p.place
     pub few : p.room ≤ room
-    pub same : tally_as (LIMIT - room) t (walk (rule h s) s room (place - 8))
-        ≡ tally_as (LIMIT - p.room) t (walk (rule h s) s p.room (p.place - 8))
+    pub same : tally_as f (LIMIT - room) t (walk (rule h s) s room (place - 8))
+        ≡ tally_as f (LIMIT - p.room) t (walk (rule h s) s p.room (p.place - 8))
 
-  pub skips : (near : ℕ) (t : Tally) (room place : ℕ) → room ≤ LIMIT → Nears s near place
-      → Skips near t room place (passed_from s near room place)
-  skips near t zero place l d =
-      subst (Skips near t zero place) (sym (passed_none s near zero place refl))
+  pub skips : (near : ℕ) (f : Header) (t : Tally) (room place : ℕ) → room ≤ LIMIT → Nears s near place
+      → Skips near f t room place (passed_from s near room place)
+  skips near f t zero place l d =
+      subst (Skips near f t zero place) (sym (passed_none s near zero place refl))
       (record { nears = d; on = omega arith; few = omega arith; same = refl })
-  skips near t (suc room) place l d = go (λ (at : ℕ). skips near t room at (omega arith)) (passes near place s) refl
+  skips near f t (suc room) place l d = go (λ (at : ℕ). skips near f t room at (omega arith)) (passes near place s) refl
     where
-      go : ((at : ℕ) → Nears s near at → Skips near t room at (passed_from s near room at)) → (c : Bool) → passes near place s ≡ c
-          → Skips near t (suc room) place (passed_from s near (suc room) place)
+      go : ((at : ℕ) → Nears s near at → Skips near f t room at (passed_from s near room at)) → (c : Bool) → passes near place s ≡ c
+          → Skips near f t (suc room) place (passed_from s near (suc room) place)
       go below false e =
-          subst (Skips near t (suc room) place) (sym (passed-stay s near (suc room) place e))
+          subst (Skips near f t (suc room) place) (sym (passed-stay s near (suc room) place e))
           (record { nears = d; on = omega arith; few = omega arith; same = refl })
       go below true e =
           let p = true-pass near place s e in
           let r = below (next_of place s) (next-due near place s d p) in
           let k : LIMIT - suc room + 1 ≡ LIMIT - room = omega arith in
-          subst (Skips near t (suc room) place) (sym (passed-next s near room place e))
+          subst (Skips near f t (suc room) place) (sym (passed-next s near room place e))
           (record {
             nears = r.nears;
             on = omega (arith, r.on, next-on place s);
             few = omega (arith, r.few);
             same =
-                passes-tally near place d p (LIMIT - suc room) room t
-                ∙ ap (λ (n : ℕ). tally_as n t (walk (rule h s) s room (next_of place s - 8))) k
+                passes-tally near place d p f (LIMIT - suc room) room t
+                ∙ ap (λ (n : ℕ). tally_as f n t (walk (rule h s) s room (next_of place s - 8))) k
                 ∙ r.same;
           })
 
@@ -470,18 +471,23 @@ turn_on r s place e to q = go (r (place - 8) (number 4 (place - 8) s) (number 4 
         (λ _ p. absurd (let z : ◌≡◌ {A = ℕ} 0 1 = cc in omega arith))) p
 
 -- what the walk from the start tallies is what the walk from here adds to this tally
-pub record Going (h : Head) (s : List ℕ) (near place₀ room₀ place room : ℕ) (t : Tally) : Type 0 where
+pub record Going (h : Head) (s : List ℕ) (near : ℕ) (f : Header) (place₀ room₀ place room : ℕ) (t : Tally) : Type 0 where
   pub past : Past h s place
   pub close : Near (length s) place near
   pub few : room ≤ LIMIT
   pub below : Below (LIMIT - room) t
-  pub same : tally_as (LIMIT - room) t (walk (rule h s) s room (place - 8))
-      ≡ tally_as (LIMIT - room₀) no_tally (walk (rule h s) s room₀ (place₀ - 8))
+  pub same : tally_as f (LIMIT - room) t (walk (rule h s) s room (place - 8))
+      ≡ tally_as f (LIMIT - room₀) no_tally (walk (rule h s) s room₀ (place₀ - 8))
 
-module _ (h : Head) (s : List ℕ) (near place₀ room₀ place room : ℕ) (t : Tally) (g : Going h s near place₀ room₀ place room t) where
-  going-nears : Nears s near place
-  going-nears = record { due = g.past.due; end = g.close }
+pub going_start : (s : List ℕ) (o : Start) (near : ℕ) (f : Header) (t : Tally) → Begins s o → Near (length s) o.place near → t ≡ no_tally
+    → Going o.head s near f o.place o.room o.place o.room t
+going_start s o near f t b n e =
+    let i = begins s o b in
+    subst (Going o.head s near f o.place o.room o.place o.room) (sym e)
+    (record { past = i.past; close = n; few = i.few; below = below_none _; same = refl })
 
+module _ (h : Head) (s : List ℕ) (near : ℕ) (f : Header) (place₀ room₀ place room : ℕ) (t : Tally)
+    (g : Going h s near f place₀ room₀ place room t) where
   -- a turn
   turned : 1 ≤ room → walk (rule h s) s room (place - 8) ≡ walk_after (step_on (rule h s) s place) (walk (rule h s) s (room - 1))
   turned k =
@@ -490,104 +496,63 @@ module _ (h : Head) (s : List ℕ) (near place₀ room₀ place room : ℕ) (t :
 
   -- the walk ends here
   pub going-last : (x : Step) → 1 ≤ room → x ≡ step_on (rule h s) s place → ((e : Entry) (to : ℕ) → x ≡ step.Chunk e to → ⊥)
-      → tally_as (LIMIT - room) t (walk_after x full) ≡ tally_as (LIMIT - room₀) no_tally (walk (rule h s) s room₀ (place₀ - 8))
+      → tally_as f (LIMIT - room) t (walk_after x full) ≡ tally_as f (LIMIT - room₀) no_tally (walk (rule h s) s room₀ (place₀ - 8))
   going-last x k e n =
-      ap (tally_as (LIMIT - room) t)
+      ap (tally_as f (LIMIT - room) t)
       (ends-alike x full (walk (rule h s) s (room - 1)) n
       ∙ ap (λ (y : Step). walk_after y (walk (rule h s) s (room - 1))) e
       ∙ sym (turned k))
       ∙ g.same
 
   -- no header more may come
-  pub going-full : room ≡ 0 → tallied.Refused TooMany ≡ tally_as (LIMIT - room₀) no_tally (walk (rule h s) s room₀ (place₀ - 8))
+  pub going-full : room ≡ 0 → tallied.Refused TooMany ≡ tally_as f (LIMIT - room₀) no_tally (walk (rule h s) s room₀ (place₀ - 8))
   going-full e =
       let d = g.past.due in
-      sym (tally-full (LIMIT - room) t (place - 8))
-      ∙ ap (tally_as (LIMIT - room) t)
+      sym (tally-full f (LIMIT - room) t (place - 8))
+      ∙ ap (tally_as f (LIMIT - room) t)
       (sym (walk-full (rule h s) s (place - 8) (omega (arith, d.start, d.whole))) ∙ ap (λ (n : ℕ). walk (rule h s) s n (place - 8)) (sym e))
       ∙ g.same
 
-  -- chunks that are passed
-  going-passed : (p : Passed) → Bytes s → p ≡ passed_from s near room place
-      → Going h s near place₀ room₀ p.place p.room t × (p.room ≤ room)
-  going-passed p b w =
-      subst (λ (x : Passed). Going h s near place₀ room₀ x.place x.room t × (x.room ≤ room)) (sym w) (
-      let z = skips h s b near t room place g.few going-nears in (
+  -- a chunk's next header is whole, and near the end as before
+  pub going-nears : (x : Step) (e : Entry) (to : ℕ) → x ≡ step_on (rule h s) s place → x ≡ step.Chunk e to → Nears s near to
+  going-nears x e to y z =
+      let q = sym y ∙ z in
+      record {
+        due = turn-due (rule h s) s place e to g.past.due.even q;
+        end = near_on s near place to (turn_on (rule h s) s place e to q) g.close;
+      }
+
+  -- a chunk, and those that are passed after it
+  pub going_next : (x : Step) (e : Entry) (to : ℕ) (u : Tally) (p : Passed) → Bytes s → 1 ≤ room → x ≡ step_on (rule h s) s place
+      → x ≡ step.Chunk e to → u ≡ noted t e → p ≡ passed_from s near (room - 1) to
+      → Going h s near f place₀ room₀ p.place p.room u × (p.room < room)
+  unfolding walk_after
+  going_next x e to u p b k y c v w =
+      let q = sym y ∙ c in
+      subst (λ (x : Tally). Going h s near f place₀ room₀ p.place p.room x × (p.room < room)) (sym v)
+      (subst (λ (x : Passed). Going h s near f place₀ room₀ x.place x.room (noted t e) × (x.room < room)) (sym w) (
+      let z = skips h s b near f (noted t e) (room - 1) to (omega (arith, g.few)) (going-nears x e to y c) in
+      let n : LIMIT - room + 1 ≡ LIMIT - (room - 1) = omega (arith, g.few) in (
         record {
-          past = record { fit = g.past.fit; due = z.nears.due; later = λ x. omega (arith, g.past.later x, z.on) };
+          past =
+              record {
+                fit = g.past.fit;
+                due = z.nears.due;
+                later = λ x. omega (arith, g.past.later x, z.on, turn_on (rule h s) s place e to q);
+              };
           close = z.nears.end;
           few = omega (arith, g.few, z.few);
-          below = below_more _ _ _ (omega (arith, g.few, z.few)) g.below;
-          same = sym z.same ∙ g.same;
+          below = below_more _ _ _ (omega (arith, g.few, z.few)) (below-noted (LIMIT - room) t e g.below);
+          same =
+              sym z.same
+              ∙ sym (ap (λ (m : ℕ). tally_as f m (noted t e) (walk (rule h s) s (room - 1) (to - 8))) n)
+              ∙ sym (tally-chunk f (LIMIT - room) t e (walk (rule h s) s (room - 1) (to - 8)))
+              ∙ sym (ap (tally_as f (LIMIT - room) t) (turned k ∙ ap (λ (x : Step). walk_after x (walk (rule h s) s (room - 1))) q))
+              ∙ g.same;
         },
-        z.few,
-      ))
+        omega (arith, z.few),
+      )))
 
-  -- a chunk
-  going-chunk : (e : Entry) (to : ℕ) (u : Tally) → 1 ≤ room → step_on (rule h s) s place ≡ step.Chunk e to → u ≡ noted t e
-      → Going h s near place₀ room₀ to (room - 1) u
-  unfolding walk_after
-  going-chunk e to u k q v =
-      let on = turn_on (rule h s) s place e to q in
-      let n : LIMIT - room + 1 ≡ LIMIT - (room - 1) = omega (arith, g.few) in
-      subst (Going h s near place₀ room₀ to (room - 1)) (sym v)
-      (record {
-        past =
-            record {
-              fit = g.past.fit;
-              due = turn-due (rule h s) s place e to g.past.due.even q;
-              later = λ x. omega (arith, g.past.later x, on);
-            };
-        close = near_on s near place to on g.close;
-        few = omega (arith, g.few);
-        below = subst (λ (m : ℕ). Below m (noted t e)) n (below-noted (LIMIT - room) t e g.below);
-        same =
-            sym (ap (λ (m : ℕ). tally_as m (noted t e) (walk (rule h s) s (room - 1) (to - 8))) n)
-            ∙ sym (tally-chunk (LIMIT - room) t e (walk (rule h s) s (room - 1) (to - 8)))
-            ∙ sym (ap (tally_as (LIMIT - room) t) (turned k ∙ ap (λ (x : Step). walk_after x (walk (rule h s) s (room - 1))) q))
-            ∙ g.same;
-      })
-
--- what the walk from the start of the loop tallies is what is to be tallied
-abbrev pub FromStart : Start → List ℕ → Passed → Type 0
-FromStart o s p =
-    tally_as (LIMIT - p.room) no_tally (walk (rule o.head s) s p.room (p.place - 8)) ≡ tally_as (LIMIT - o.room) no_tally (rest_of o s)
-
--- the start of the loop, past the chunks that are passed first
-module _ (s : List ℕ) (o : Start) (near : ℕ) (p : Passed) (b : Bytes s) (i : Begins s o) (n : Near (length s) o.place near)
-    (w : p ≡ passed_from s near o.room o.place) where
-  passed : Skips o.head s b near no_tally o.room o.place p
-  passed =
-      let f = begins s o i in
-      subst (Skips o.head s b near no_tally o.room o.place) (sym w)
-      (skips o.head s b near no_tally o.room o.place f.few (record { due = f.past.due; end = n }))
-
-  pub going-first : (t : Tally) → t ≡ no_tally → Going o.head s near p.place p.room p.place p.room t
-  going-first t e =
-      let f = begins s o i in
-      subst (Going o.head s near p.place p.room p.place p.room) (sym e)
-      (record {
-        past = record { fit = f.past.fit; due = passed.nears.due; later = λ x. omega (arith, f.past.later x, passed.on) };
-        close = passed.nears.end;
-        few = omega (arith, f.few, passed.few);
-        below = below_none _;
-        same = refl;
-      })
-
-  pub first-same : FromStart o s p
-  first-same = sym passed.same
-
--- a turn of it: a chunk, and those that are passed after it
-module _ (h : Head) (s : List ℕ) (near place₀ room₀ place room : ℕ) (t : Tally) (g : Going h s near place₀ room₀ place room t)
-    (x : Step) (e : Entry) (to : ℕ) (y : x ≡ step_on (rule h s) s place) (z : x ≡ step.Chunk e to) where
-  pub next-nears : 1 ≤ room → Nears s near to
-  next-nears k = going-nears _ _ _ _ _ _ _ _ (going-chunk _ _ _ _ _ _ _ _ g e to _ k (sym y ∙ z) refl)
-
-  pub going_next : (u : Tally) (p : Passed) → Bytes s → 1 ≤ room → u ≡ noted t e → p ≡ passed_from s near (room - 1) to
-      → Going h s near place₀ room₀ p.place p.room u × (p.room < room)
-  going_next u p b k v w =
-      let n = going-passed _ _ _ _ _ _ _ _ (going-chunk _ _ _ _ _ _ _ _ g e to u k (sym y ∙ z) v) p b w in
-      (n.0, omega (arith, n.1))
-
-pub going-small : {h : Head} {s : List ℕ} {near place₀ room₀ place room : ℕ} {t : Tally} → Going h s near place₀ room₀ place room t → Small t
+pub going-small : {h : Head} {s : List ℕ} {near : ℕ} {f : Header} {place₀ room₀ place room : ℕ} {t : Tally}
+    → Going h s near f place₀ room₀ place room t → Small t
 going-small g = below-small _ _ (omega arith) g.below

@@ -3,6 +3,7 @@ use Rattle.std.specs.Prelude.{ℕ, zero, suc, ◌+◌, ◌-◌, ◌*◌, ◌/◌
 use Rattle.le.specs.Number.{number}
 use Rattle.le.specs.Choice.{pick, every}
 use Rattle.chunk.specs.declared.Entry.{Entry}
+use Rattle.chunk.specs.declared.Header.{Header}
 use Rattle.chunk.specs.declared.Refusal.{Refusal}
 use Rattle.chunk.specs.declared.Refusal.TheVariants.{BadChunkSet, CutHeader}
 use Rattle.chunk.specs.declared.Verdict.{Verdict}
@@ -12,7 +13,7 @@ use Rattle.chunk.specs.Names.{FMT, DATA, FACT, BEXT, CHNA}
 use Rattle.chunk.specs.Fields.{ONES}
 use Rattle.chunk.specs.Tables.{count, find}
 use Rattle.chunk.specs.Walks.{Rule, Walked, walk}
-use Rattle.chunk.specs.Code.{Due}
+use Rattle.chunk.specs.Code.{header_of, Due}
 use Rattle.form.specs.declared.Head.{Head}
 use Rattle.form.specs.declared.Start.{Start}
 use Rattle.form.specs.Forms.{head_of}
@@ -29,7 +30,7 @@ use Rattle.listing.specs.declared.headers.Tallied.TheVariants as tallied
 use Rattle.listing.specs.declared.Listing as code
 use Rattle.listing.specs.declared.Listed.{Listed}
 use Rattle.listing.specs.declared.Listed.TheVariants as listed
-use Rattle.listing.specs.Listings.{Listing, listing}
+use Rattle.listing.specs.Listings.{Listing}
 
 -- ---- the tally
 
@@ -142,11 +143,11 @@ pub record Begins (s : List ℕ) (o : Start) : Type 0 where
   pub whole : o.place ≤ length s
 
 -- what a walk to the end has noted
-unfoldable pub tally_as : ℕ → Tally → Walked → Tallied
-tally_as n t w = ended w.end
+unfoldable pub tally_as : Header → ℕ → Tally → Walked → Tallied
+tally_as first n t w = ended w.end
   where
     ended : Verdict → Tallied
-    ended verdict.Accepted = tallied.Noted (record { tally = all_noted t w.rows; count = n + length w.rows })
+    ended verdict.Accepted = tallied.Noted (record { tally = all_noted t w.rows; first = first; count = n + length w.rows })
     ended (verdict.Refused r) = tallied.Refused r
 
 -- ---- the listing
@@ -156,23 +157,20 @@ unfolding pick
 fact_in rows = pick (eqb (count FACT rows) 0) fact.None (fact.At (find FACT rows).place)
 
 -- what the code keeps of a listing
-unfoldable pub kept_of : Listing → code.Listing
-kept_of l =
+unfoldable pub kept_of : List ℕ → Listing → code.Listing
+kept_of s l =
     record {
       head = l.head;
+      first = header_of (place_of l.head.form s) s;
       fmt = payload_of (find FMT l.rows);
       audio = payload_of (find DATA l.rows);
       fact = fact_in l.rows;
       count = length l.rows;
     }
 
-unfoldable pub listed_as : Answer Listing → Listed
-listed_as (refused r) = listed.Refused r
-listed_as (given l) = listed.Listing (kept_of l)
-
--- what is kept of a listing is what the listing of this file finds now
-abbrev pub Fresh : List ℕ → code.Listing → Type 0
-Fresh s k = listed_as (listing s) ≡ listed.Listing k
+unfoldable pub listed_as : List ℕ → Answer Listing → Listed
+listed_as s (refused r) = listed.Refused r
+listed_as s (given l) = listed.Listing (kept_of s l)
 
 -- check 10
 unfoldable pub chunks_as : Head → Noted → Listed
@@ -182,6 +180,7 @@ chunks_as h n =
     (listed.Listing
     (record {
       head = h;
+      first = n.first;
       fmt = n.tally.fmt;
       audio = n.tally.audio;
       fact = fact_of n.tally;

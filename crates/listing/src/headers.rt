@@ -1,11 +1,11 @@
 // The walk of the headers past ds64 by their true sizes, its chunks tallied.
 ghost use Rattle.std.specs.Prelude.{◌≡◌, ◌-◌, ◌^◌, ◌≤◌, ◌<◌};
 ghost use Rattle.chunk.specs.Tables.{LIMIT};
-ghost use Rattle.chunk.specs.Code.{walk_after, full};
+ghost use Rattle.chunk.specs.Code.{header_of, walk_after, full};
 ghost use Rattle.listing.specs.Code.{Small, no_tally, Near, Nears, passed_from, rest_of, Begins, tally_as};
 
 use super::tally::Tally;
-use chunk::{Refusal, Step, Table};
+use chunk::{Header, Refusal, Step, Table};
 use form::Start;
 
 // Where a run of passed chunks ends, and how many headers may still come.
@@ -15,10 +15,11 @@ pub struct Passed {
     pub room: u64,
 }
 
-// What is noted of chunks: their tally, and their number.
+// What is noted of chunks: their tally, the first header, and their number.
 #[derive(Drop)]
 pub struct Noted {
     pub tally: Tally,
+    pub first: Header,
     pub count: u64,
 }
 
@@ -66,15 +67,17 @@ fn near_end(len: u64, place: u64) -> u64
 // How the walk ends at a step after which no header may come.
 fn last(found: Step, n: Noted) -> Tallied
     requires { Small n.tally × (n.count < 2 ^ 32) }
-    ensures { result ≡ tally_as n.count n.tally (walk_after found full) }
+    ensures { result ≡ tally_as n.first n.count n.tally (walk_after found full) }
 {
     match found {
         Step::Chunk(_, _) => Tallied::Refused(Refusal::TooMany),
         Step::Last(e) => {
             let t = n.tally;
+            let first = n.first;
             let tally = super::tally::note(t, e);
             Tallied::Noted(Noted {
                 tally,
+                first,
                 count: n.count + 1,
             })
         }
@@ -86,25 +89,34 @@ fn last(found: Step, n: Noted) -> Tallied
 // The walk past ds64 by the true sizes, its chunks noted. Nothing is stored, so that a refused file leaves no row behind.
 pub fn walk(file: &[u8], o: Start) -> Tallied
     requires { Begins file.now o }
-    ensures { result ≡ tally_as (LIMIT - o.room) no_tally (rest_of o file.now) }
+    ensures { result ≡ tally_as (header_of o.place file.now) (LIMIT - o.room) no_tally (rest_of o file.now) }
 {
     let head = o.head;
+    let mut place = o.place;
+    let mut room = o.room;
     let mut tally = super::tally::none();
-    let near = near_end(file.len() as u64, o.place);
-    let ahead = pass(file, near, o.place, o.room);
-    let mut place = ahead.place;
-    let mut room = ahead.room;
-    while 0 < room {
+    let first = chunk::steps::header(file, place);
+    let near = near_end(file.len() as u64, place);
+    loop {
         let h = chunk::steps::header(file, place);
         let found = truesize::step(file, head, place, h);
         let Step::Chunk(entry, next) = found else {
             let count = Table::LIMIT as u64 - room;
-            return last(found, Noted { tally, count });
+            return last(
+                found,
+                Noted {
+                    tally,
+                    first,
+                    count,
+                },
+            );
         };
         tally = super::tally::note(tally, entry);
         let p = pass(file, near, next, room - 1);
         place = p.place;
         room = p.room;
+        if room == 0 {
+            return Tallied::Refused(Refusal::TooMany);
+        }
     }
-    Tallied::Refused(Refusal::TooMany)
 }

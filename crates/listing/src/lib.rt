@@ -6,7 +6,7 @@ ghost use Rattle.std.specs.Prelude.{◌≡◌};
 ghost use Rattle.listing.specs.Listings.{listing};
 ghost use Rattle.listing.specs.Code.{fact_of, chunks_as, bare_as, listed_as};
 
-use chunk::Refusal;
+use chunk::{Header, Refusal};
 use form::{Head, Opened};
 use headers::{Noted, Tallied};
 use tally::Tally;
@@ -29,6 +29,8 @@ pub enum Fact {
 #[derive(Drop)]
 pub struct Listing {
     pub head: Head,
+    // The header of the first chunk; in a 64-bit form of the first past ds64.
+    pub first: Header,
     pub fmt: Payload,
     pub audio: Payload,
     pub fact: Fact,
@@ -60,11 +62,13 @@ fn chunks(head: Head, n: Noted) -> Listed
     if !tally::good(t) {
         return Listed::Refused(Refusal::BadChunkSet);
     }
+    let first = n.first;
     let fmt = t.fmt;
     let audio = t.audio;
     let fact = fact_of(t);
     Listed::Listing(Listing {
         head,
+        first,
         fmt,
         audio,
         fact,
@@ -82,27 +86,22 @@ fn bare(len: u64, end: u64) -> Refusal
     Refusal::CutHeader
 }
 
-// Checks 1 to 10. Each arm returns for itself: where they meet, a refused file's numbers would be carried to the end too, and
-// the loop's would leave their registers for them.
+// Checks 1 to 10.
 pub fn list(file: &[u8]) -> Listed
-    ensures { result ≡ listed_as (listing file.now) }
+    ensures { result ≡ listed_as file.now (listing file.now) }
 {
     match form::open(file) {
-        Opened::Refused(r) => {
-            return Listed::Refused(r);
-        }
+        Opened::Refused(r) => Listed::Refused(r),
         Opened::Start(o) => {
             let len = file.len() as u64;
             if len < o.place {
                 return Listed::Refused(bare(len, o.place - 8));
             }
             match headers::walk(file, o) {
-                Tallied::Refused(r) => {
-                    return Listed::Refused(r);
-                }
+                Tallied::Refused(r) => Listed::Refused(r),
                 Tallied::Noted(n) => {
                     let head = o.head;
-                    return chunks(head, n);
+                    chunks(head, n)
                 }
             }
         }

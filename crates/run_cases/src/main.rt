@@ -1,9 +1,8 @@
-// Runs the listing and its judgement, the 32-bit walk, the sample count and the upgrade on the files that its input describes.
+// Runs the scan, the 32-bit walk, the sample count and the upgrade on the files that its input describes.
 //
-// The input is a script (the crate script says how a file is put together). n$ asks the first n bytes for the scan (the
-// listing and the judgement in turn) and the rest, and upgrades them to RF64, n% to BW64; ? prints the form and ds64, n' the
-// 4 bytes at n. n# lists the first n bytes and has that listing judged: as it is, altered, and cut; n~ has them judged by the
-// listing of the kept file. What is expected stands in the file stdout, worked out from the documents.
+// The input is a script (the crate script says how a file is put together). n$ asks the four of the first n bytes and
+// upgrades them to RF64, n% to BW64; ? prints the form and ds64, n' the 4 bytes at n.
+// What is expected stands in the file stdout, worked out from document 01.
 ghost use Rattle.std.specs.Prelude.{◌+◌, ◌≤◌, length};
 
 use chunk::Verdict;
@@ -80,26 +79,11 @@ fn walked(label: &[u8], v: Verdict, words: &[u64]) {
     table(words);
 }
 
-// The judgement of a listing, and its table if that is good.
-fn judged(file: &[u8], words: &[u64]) {
-    let v = wave::judge(file, words);
-    text(b": scan");
-    verdict(v);
-    match v {
-        Verdict::Accepted => table(words),
-        Verdict::Refused(_) => {}
-    }
-}
-
-// The listing and its judgement in turn.
 fn scan(file: &[u8]) {
-    let t = wave::list(file);
+    let t = wave::scan(file);
     let words = t.table.words;
     let v = t.verdict;
-    match v {
-        Verdict::Accepted => judged(file, &words),
-        Verdict::Refused(_) => walked(b": scan", v, &words),
-    }
+    walked(b": scan", v, &words);
 }
 
 fn walk(file: &[u8]) {
@@ -132,85 +116,6 @@ fn all(whole: &mut [u8], n: usize, target: Target) {
     count(file);
     text(b"; upgrade");
     verdict(upgrade::upgrade(file, target));
-    text(b"\n");
-}
-
-// Another number.
-fn other(n: u64) -> u64 {
-    if n == 0 { 1 } else { n - 1 }
-}
-
-// One more than the words of a listing of up to eight rows.
-fn span(words: &[u64]) -> usize {
-    if words.len() == 0 {
-        return 0;
-    }
-    let count = words[0];
-    if 8 < count {
-        34
-    } else {
-        2 + 4 * count as usize
-    }
-}
-
-// The judgement by these words with each in turn another.
-fn altered(file: &[u8], words: &mut [u64], stop: usize) {
-    let mut i: usize = 0;
-    while i < stop {
-        if i < words.len() {
-            let word = words[i];
-            words[i] = other(word);
-            verdict(wave::judge(file, words));
-            words[i] = word;
-        }
-        i += 1;
-    }
-}
-
-// The judgement by the first of these words, none of them to one less than that.
-fn cut(file: &[u8], words: &[u64], stop: usize) {
-    let mut i: usize = 0;
-    while i < stop {
-        if i <= words.len() {
-            verdict(wave::judge(file, &words[..i]));
-        }
-        i += 1;
-    }
-}
-
-// A line: the listing of the first n bytes and its judgement; with each word another, up to the one past the last row; and
-// with none of the words, one, and so on up to the last row.
-fn triage(whole: &[u8], n: usize) {
-    if whole.len() < n {
-        return;
-    }
-    let file = &whole[..n];
-    let t = wave::list(file);
-    let v = t.verdict;
-    let mut words = t.table.words;
-    let stop = span(&words);
-    walked(b": list", v, &words);
-    text(b"; judge");
-    verdict(wave::judge(file, &words));
-    text(b"; altered");
-    altered(file, &mut words, stop);
-    text(b"; cut");
-    cut(file, &words, stop);
-    text(b"\n");
-}
-
-// A line: what judges the first n bytes by the listing of the first n that were kept.
-fn stale(whole: &[u8], kept: &[u8], n: usize) {
-    if whole.len() < n {
-        return;
-    }
-    if kept.len() < n {
-        return;
-    }
-    let t = wave::list(&kept[..n]);
-    let words = t.table.words;
-    text(b": judge by the kept listing");
-    verdict(wave::judge(&whole[..n], &words));
     text(b"\n");
 }
 
@@ -261,12 +166,10 @@ fn field(file: &[u8], at: usize) {
 }
 
 // A command that is none of the script's, after the number n.
-fn command(b: u8, n: usize, file: &mut [u8], kept: &[u8]) {
+fn command(b: u8, n: usize, file: &mut [u8]) {
     match b {
         b'$' => all(file, n, Target::Rf64),
         b'%' => all(file, n, Target::Bw64),
-        b'#' => triage(file, n),
-        b'~' => stale(file, kept, n),
         b'?' => head(file),
         b'\'' => field(file, n),
         _ => {}
@@ -274,10 +177,10 @@ fn command(b: u8, n: usize, file: &mut [u8], kept: &[u8]) {
 }
 
 // What a script leaves to the program at a character.
-fn act(sign: Sign, b: u8, n: u64, file: &mut [u8], kept: &[u8]) {
+fn act(sign: Sign, b: u8, n: u64, file: &mut [u8]) {
     match sign {
         Sign::Print => text(&[b]),
-        Sign::Own => command(b, n as usize, file, kept),
+        Sign::Own => command(b, n as usize, file),
         _ => {}
     }
 }
@@ -290,7 +193,7 @@ fn run(input: &[u8]) {
     while i < input.len() {
         let b = input[i];
         let sign = s.sign(b);
-        act(sign, b, s.n, &mut file, &kept);
+        act(sign, b, s.n, &mut file);
         s = s.after(sign, &mut file, &mut kept);
         i += 1;
     }

@@ -1,5 +1,5 @@
-// Writes files of each form, with and without bext and chna, of even, odd and no audio, and prints each file's length, the
-// numbers of its listing and of that one's judgement, its table, and for a 64-bit form the four numbers of its ds64. The document's whole file is printed byte by
+// Writes files of each form, with and without bext and chna, of even, odd and no audio, and prints each file's length, its
+// table as the scan has it, and for a 64-bit form the four numbers of its ds64. The document's whole file is printed byte by
 // byte. What is expected stands in the file stdout, worked out from document 01.
 ghost use Rattle.std.specs.Prelude.{◌≤◌};
 
@@ -92,14 +92,12 @@ fn ds64(file: &[u8]) {
     }
 }
 
-// The numbers of the listing and of its judgement, the rows, and ds64.
+// The number of a scan, the rows of its table, and ds64.
 fn scan(file: &[u8]) {
-    let t = wave::list(file);
+    let t = wave::scan(file);
     let v = t.verdict;
     let words = t.table.words;
     next(v.number() as u64);
-    let judged = wave::judge(file, &words);
-    next(judged.number() as u64);
     rows(&words);
     ds64(file);
 }

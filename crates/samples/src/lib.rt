@@ -5,8 +5,8 @@ ghost use Rattle.samples.specs.Code.{count_at};
 
 use chunk::Refusal;
 use form::{Form, Head};
-use listing::{Fact, Listed};
-use wave::judgement::Judged;
+use listing::Fact;
+use wave::judgement::Examined;
 
 // What the question for the sample count is answered.
 #[derive(Drop)]
@@ -40,17 +40,14 @@ fn fact_count(file: &[u8], head: Head, place: u64) -> Samples
 pub fn sample_count(file: &[u8]) -> Samples
     ensures { result ≡ samples_of file.now }
 {
-    match listing::list(file) {
-        Listed::Refused(r) => Samples::Refused(r),
-        Listed::Listing(l) => match wave::judgement::judge_fresh(file, l) {
-            Judged::Refused(r) => Samples::Refused(r),
-            Judged::Block(_) => {
-                let fact = l.fact;
-                match fact {
-                    Fact::At(place) => fact_count(file, l.head, place),
-                    Fact::None => Samples::None,
-                }
+    match wave::judgement::examine(file) {
+        Examined::Refused(r) => Samples::Refused(r),
+        Examined::Accepted(a) => {
+            let fact = a.fact;
+            match fact {
+                Fact::At(place) => fact_count(file, a.head, place),
+                Fact::None => Samples::None,
             }
-        },
+        }
     }
 }

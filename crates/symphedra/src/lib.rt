@@ -5,48 +5,17 @@
 pub mod writers;
 
 ghost use Rattle.records.specs.Reading.{ReadsFmt, ReadsBext, PartsOf, ReadsChna, EntryOf};
-ghost use Rattle.symphedra.specs.Exports.{Lists, Judges, Scans, Walks32, Counts, Upgrades, rf64, bw64};
+ghost use Rattle.symphedra.specs.Exports.{Scans, Walks32, Counts, Upgrades, rf64, bw64};
 
-use chunk::Table;
-use listing::Listed;
 use samples::Samples;
 use upgrade::Target;
-use wave::judgement::Judged;
 
-// The table of a file's chunks, whatever its format; or a refusal and no chunk.
-#[unsafe(no_mangle)]
-pub extern "C" fn symphedra_list(file: &[u8], table: &mut [u64]) -> u32
-    ensures { Lists file.now table.old result table.new }
-{
-    wave::list_into(file, table).number()
-}
-
-// The judgement of a file's format, over words that are to be a fresh listing of it.
-#[unsafe(no_mangle)]
-pub extern "C" fn symphedra_judge(file: &[u8], table: &[u64]) -> u32
-    ensures { Judges file.now table.now result }
-{
-    wave::judge(file, table).number()
-}
-
-// The listing and its judgement in turn: the table of a file's chunks, stored once both are passed, or a refusal and no chunk.
+// The table of a file's chunks, or its refusal and no chunk.
 #[unsafe(no_mangle)]
 pub extern "C" fn symphedra_scan(file: &[u8], table: &mut [u64]) -> u32
     ensures { Scans file.now table.old result table.new }
 {
-    if table.len() < Table::WORDS {
-        return 15;
-    }
-    match listing::list(file) {
-        Listed::Refused(r) => words::zeros(r.number(), 1, table),
-        Listed::Listing(l) => match wave::judgement::judge_fresh(file, l) {
-            Judged::Refused(r) => words::zeros(r.number(), 1, table),
-            Judged::Block(_) => {
-                wave::rows::fill(file, l.head, l.count, table);
-                0
-            }
-        },
-    }
+    wave::scan_into(file, table).number()
 }
 
 // What the 32-bit walk shows, and its stop.

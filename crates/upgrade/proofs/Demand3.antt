@@ -17,7 +17,7 @@ use Rattle.form.specs.Forms.{is_wide}
 use Rattle.fmt.specs.declared.Format.{Format}
 use Rattle.wave.specs.Scans.{Scan, scan}
 use Rattle.wave.proofs.Scanned.{scan-scanned}
-use Rattle.wave.proofs.FirstHalf.{says-own, list-half, first-half}
+use Rattle.wave.proofs.FirstHalf.{says-own, first-half}
 use Rattle.upgrade.specs.declared.Target.{Target}
 use Rattle.upgrade.specs.Upgrades.{patches, patched}
 use Rattle.upgrade.specs.Demand3.{Reserved, Upgraded, SecondHalf, Demand3}
@@ -63,4 +63,4 @@ second-half t s a bytes e riff =
 
 -- Demand 3, whole.
 pub demand-3 : Demand3
-demand-3 = record { first = first-half; listed = list-half; own = says-own; second = second-half }
+demand-3 = record { first = first-half; own = says-own; second = second-half }

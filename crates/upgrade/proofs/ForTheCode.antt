@@ -4,23 +4,15 @@ use mathlib.Core.Path.{◌≡◌, refl, sym, ◌∙◌, ap, subst}
 use mathlib.Core.List.{List}
 use Prim.Native.Nat.{ℕ}
 use native.Mathlib.Omega.{arith}
-use lib.ListN.{replicate}
 use Rattle.le.specs.Number.{Bytes}
 use Rattle.chunk.specs.declared.Verdict.{Verdict}
-use Rattle.chunk.specs.declared.Table.{Table}
-use Rattle.chunk.specs.declared.Refusal.{Refusal}
-use Rattle.chunk.specs.declared.Verdict.TheVariants.{Accepted, Refused}
+use Rattle.chunk.specs.declared.Verdict.TheVariants.{Accepted}
 use Rattle.chunk.specs.Refusals.{Answer, refused, given, verdict_of}
-use Rattle.chunk.specs.Tables.{tabled, table_of, WORDS}
+use Rattle.chunk.specs.Tables.{table_of}
 use Rattle.chunk.specs.Walks.{Walked}
-use Rattle.listing.specs.Listings.{Listing, listing}
-use Rattle.wave.specs.Scans.{scan, rows_by, listed_rows}
-use Rattle.wave.specs.Judgements.{judgement}
-use Rattle.wave.specs.Words.{list_table, walk_table}
-use Rattle.wave.proofs.Ends.{verdict-refused}
-use Rattle.wave.proofs.Judgements.{scan-listing}
-use Rattle.wave.proofs.Freshness.{decides}
-use Rattle.wave.proofs.FirstHalf.{list-half}
+use Rattle.wave.specs.Scans.{Scan, scan, rows_of}
+use Rattle.wave.specs.Words.{scan_table, walk_table}
+use Rattle.wave.proofs.FirstHalf.{first-half}
 use Rattle.upgrade.specs.declared.Target.{Target}
 use Rattle.upgrade.specs.Upgrades.{upgraded}
 use Rattle.upgrade.specs.Demand3.{Upgraded}
@@ -33,24 +25,16 @@ unfolding verdict_of
 accepts (refused r) e = absurd (let z : ◌≡◌ {A = ℕ} 0 1 = cc in omega arith)
 accepts (given a) e = (a, refl)
 
-walks : (s : List ℕ) → (list_table s).verdict ≡ Accepted → Walks s
-unfolding list_table walk_table rows_by table_of
+walks : (s : List ℕ) → (scan_table s).verdict ≡ Accepted → Walks s
+unfolding scan_table walk_table rows_of
 walks s e =
-    let l = accepts (listing s) e in
-    let t : List ℕ = replicate WORDS 0 in
-    let d = decides s (tabled l.0.rows t) in
-    let w = ap (λ (x : Answer Listing). table_of (listed_rows x)) l.1 in
+    let a = accepts (scan s) e in
     record {
-      listed = l.0;
-      is = l.1;
-      table = w;
-      walked = ap (λ (x : Walked). record { table = table_of x.rows; verdict = x.end }) (list-half s l.0 l.1).walk;
-      judged = ap (λ (x : Table). verdict_of (judgement s x.words)) w ∙ d.fresh ((decides s t).listed l.0 l.1);
+      accepted = a.0;
+      is = a.1;
+      table = ap (λ (x : Answer Scan). table_of (rows_of x)) a.1;
+      walked = ap (λ (w : Walked). record { table = table_of w.rows; verdict = w.end }) (first-half s a.0 a.1).walk;
     }
-
-refuses : (s : List ℕ) (r : Refusal) → (list_table s).verdict ≡ Refused r → scan s ≡ refused r
-unfolding list_table
-refuses s r e = scan-listing s r (verdict-refused (listing s) r e)
 
 pub keeps : (t : Target) (s : List ℕ) (r : Verdict) (u : List ℕ) → Bytes s → UpgradeDone t s r u → KeepsDemand3 t s r u
 unfolding verdict_of file_after
@@ -69,4 +53,4 @@ keeps t s r u b d a e f =
     }
 
 pub demand-3-for-the-code : Demand3ForTheCode
-demand-3-for-the-code = record { walks = walks; refuses = refuses; upgrades = keeps }
+demand-3-for-the-code = record { walks = walks; upgrades = keeps }

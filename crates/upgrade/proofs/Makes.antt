@@ -11,7 +11,7 @@ use borrow.Author.Tests.{eq-eqb, eqb-true, eqb-false, leb-true, leb-false, le-le
 use Rattle.le.specs.Number.{number, stored}
 use Rattle.chunk.specs.declared.Entry.{Entry}
 use Rattle.chunk.specs.declared.Header.{Header}
-use Rattle.chunk.specs.Code.{HeaderAt}
+use Rattle.chunk.specs.Code.{header_of}
 use Rattle.le.specs.Choice.{pick}
 use Rattle.chunk.specs.declared.Refusal.{Refusal}
 use Rattle.chunk.specs.declared.Refusal.TheVariants.{RaggedAudio, Already64, NoReserve}
@@ -24,21 +24,21 @@ use Rattle.chunk.specs.Walks.{past}
 use Rattle.chunk.proofs.Checks.{check-given, given-inj, and_then-given}
 use Rattle.chunk.proofs.Laid.{Laid, done, next, laid-lies}
 use Rattle.chunk.proofs.Finds.{found}
+use Rattle.form.specs.declared.Form.{Form}
 use Rattle.form.specs.declared.Form.TheVariants.{Riff}
 use Rattle.form.specs.Forms.{is_wide, form_size, LEAST}
-use Rattle.form.specs.declared.Head.{Head}
+use Rattle.form.specs.Code.{place_of}
 use Rattle.truesize.specs.Sizes.{true_size, entries_of}
 use Rattle.truesize.proofs.Sizes.{own-true, riff-own}
 use Rattle.fmt.specs.declared.Format.{Format}
 use Rattle.fmt.specs.Formats.{format_in}
 use Rattle.fmt.proofs.Laws.{block-least}
-use Rattle.listing.specs.declared.Listing.{Listing}
+use Rattle.wave.specs.declared.judgement.Accepted.{Accepted}
 use Rattle.listing.specs.declared.Fact.TheVariants as fact
-use Rattle.wave.specs.Scans.{Scan, listing_of, scan, payload, judged, whole_blocks}
-use Rattle.listing.specs.Code.{payload_of, fact_in, kept_of}
-use Rattle.wave.specs.Code.{Knows}
+use Rattle.wave.specs.Scans.{Scan, scan, payload, judged, whole_blocks}
+use Rattle.listing.specs.Code.{payload_of, fact_in}
+use Rattle.wave.specs.Code.{accepted_of}
 use Rattle.wave.proofs.Scanned.{scan-scanned}
-use Rattle.wave.proofs.Judgements.{known-head, known-fact, fact-at}
 use Rattle.upgrade.specs.declared.Reserve.{Reserve}
 use Rattle.upgrade.specs.declared.Reserved.{Reserved}
 use Rattle.upgrade.specs.declared.Reserved.TheVariants as reserve
@@ -46,7 +46,7 @@ use Rattle.upgrade.specs.declared.Target.{Target}
 use Rattle.upgrade.specs.declared.Target.TheVariants.{Rf64, Bw64}
 use Rattle.upgrade.specs.Upgrades.{Patch, patch, halves, has_fact, frames, third_for, fact_patch, target_name, patches, patched, reserved}
 use Rattle.upgrade.specs.Words.{file_after, UpgradeDone}
-use Rattle.upgrade.specs.Code.{Ready, reserve_as, third_as, third_of, ds64_stores, fact_as, fact_store, field_stores, stores}
+use Rattle.upgrade.specs.Code.{Knows, Ready, reserve_as, third_as, third_of, ds64_stores, fact_as, fact_store, field_stores, stores}
 use Rattle.upgrade.proofs.Patches.{patched-append, halves-stored}
 use Rattle.upgrade.proofs.Outcomes.{upgrade_refused, upgrade-wide, upgrade-unreserved, upgrade-given}
 
@@ -68,24 +68,24 @@ pub fields_made : (at name : ℕ) (s : List ℕ)
 unfolding field_stores patched patch
 fields_made at name s = refl
 
-pub stores-made : (t : Target) (k : Listing) (block : ℕ) (s : List ℕ)
-    → patched (stores t k block s) s
+pub stores-made : (t : Target) (k : Accepted) (s : List ℕ)
+    → patched (stores t k s) s
     ≡ patched (field_stores (k.audio.place - 4) (target_name t))
-    (patched (fact_store t k.fact) (patched (ds64_stores (length s - 8) k.audio.size (third_of t k block s)) s))
+    (patched (fact_store t k.fact) (patched (ds64_stores (length s - 8) k.audio.size (third_of t k s)) s))
 unfolding stores
-stores-made t k block s =
-    patched-append (ds64_stores (length s - 8) k.audio.size (third_of t k block s) ++ fact_store t k.fact) _ s
+stores-made t k s =
+    patched-append (ds64_stores (length s - 8) k.audio.size (third_of t k s) ++ fact_store t k.fact) _ s
     ∙ ap (patched (field_stores (k.audio.place - 4) (target_name t))) (patched-append _ (fact_store t k.fact) s)
 
 -- the three groups of stores, one after the other
-pub all_made : (t : Target) (k : Listing) (block : ℕ) (s x y z : List ℕ) (n m : ℕ) → x ≡ patched (ds64_stores (length s - 8) k.audio.size n) s
-    → n ≡ third_of t k block s → y ≡ patched (fact_store t k.fact) x → z ≡ patched (field_stores (k.audio.place - 4) m) y
-    → m ≡ target_name t → z ≡ patched (stores t k block s) s
-all_made t k block s x y z n m dx dn dy dz dm =
+pub all_made : (t : Target) (k : Accepted) (s x y z : List ℕ) (n m : ℕ) → x ≡ patched (ds64_stores (length s - 8) k.audio.size n) s
+    → n ≡ third_of t k s → y ≡ patched (fact_store t k.fact) x → z ≡ patched (field_stores (k.audio.place - 4) m) y
+    → m ≡ target_name t → z ≡ patched (stores t k s) s
+all_made t k s x y z n m dx dn dy dz dm =
     dz ∙ ap (λ (b : ℕ). patched (field_stores (k.audio.place - 4) b) y) dm
     ∙ ap (patched (field_stores (k.audio.place - 4) (target_name t)))
     (dy ∙ ap (patched (fact_store t k.fact)) (dx ∙ ap (λ (b : ℕ). patched (ds64_stores (length s - 8) k.audio.size b) s) dn))
-    ∙ sym (stores-made t k block s)
+    ∙ sym (stores-made t k s)
 
 -- ---- what is known of an accepted file
 
@@ -94,17 +94,11 @@ unfolding count
 no_rows = refl
 
 module _ (s : List ℕ) (a : Scan) (e : scan s ≡ given a) where
-  abbrev kept : Listing
-  kept = kept_of (listing_of a)
-
-  abbrev block : ℕ
-  block = a.format.block
-
-  third-same : (t : Target) → third_of t kept block s ≡ third_for t a s
-  unfolding third_of third_for third_as kept_of payload_of fact_in frames has_fact
+  third-same : (t : Target) → third_of t (accepted_of s a) s ≡ third_for t a s
+  unfolding third_of third_for third_as accepted_of payload_of fact_in frames has_fact
   third-same Rf64 = go (eqb (count FACT a.rows) 0)
     where
-      go : (b : Bool) → third_as (pick b fact.None (fact.At (find FACT a.rows).place)) (find DATA a.rows).size block s
+      go : (b : Bool) → third_as (pick b fact.None (fact.At (find FACT a.rows).place)) (accepted_of s a) s
           ≡ pick (not b) (number 4 (find FACT a.rows).place s) (frames a)
       go true = refl
       go false = refl
@@ -123,10 +117,10 @@ module _ (s : List ℕ) (a : Scan) (e : scan s ≡ given a) where
   whole-size : length s - 8 ≡ form_size a.head (number 4 4 s)
   whole-size = let o = (scan-scanned s a e).listed.opened in omega (arith, o.whole)
 
-  pub stores_same : (t : Target) → stores t kept block s ≡ patches t a s
-  unfolding stores patches ds64_stores field_stores kept_of payload_of
+  pub stores_same : (t : Target) → stores t (accepted_of s a) s ≡ patches t a s
+  unfolding stores patches ds64_stores field_stores accepted_of payload_of
   stores_same t =
-      ap₂ (λ (n : ℕ) (f : List Patch). ds64_stores n (find DATA a.rows).size (third_of t kept block s) ++ f
+      ap₂ (λ (n : ℕ) (f : List Patch). ds64_stores n (find DATA a.rows).size (third_of t (accepted_of s a) s) ++ f
       ++ field_stores ((find DATA a.rows).place - 4) (target_name t)) whole-size (fact-same t)
       ∙ ap (λ (n : ℕ). ds64_stores (form_size a.head (number 4 4 s)) (find DATA a.rows).size n ++ fact_patch t a
       ++ field_stores ((find DATA a.rows).place - 4) (target_name t)) (third-same t)
@@ -159,35 +153,6 @@ module _ (s : List ℕ) (a : Scan) (e : scan s ≡ given a) where
             ends = omega (arith, w.place, w.ends);
           }
 
--- ---- the reserve, from the first header
-
-module _ (s : List ℕ) (x : Header) (h : HeaderAt 20 s x) where
-  reserve-cases : (b c : Bool) → eqb x.name JUNK ≡ b → leb LEAST x.field ≡ c
-      → (r : Reserved) → pick (b && c) (reserve.Room (record { size = x.field })) reserve.None ≡ r
-      → ((v : Reserve) → r ≡ reserve.Room v → (number 4 12 s ≡ JUNK) × (LEAST ≤ number 4 16 s))
-      × (r ≡ reserve.None → number 4 12 s ≡ JUNK → LEAST ≤ number 4 16 s → ⊥)
-  unfolding pick
-  reserve-cases true true p q r e = (
-    (λ v z. (sym h.name ∙ eqb-true x.name JUNK p, omega (arith, h.field, leb-true LEAST x.field q))),
-    (λ z. absurd (let y : ◌≡◌ {A = ℕ} 0 1 = cc in omega arith)),
-  )
-  reserve-cases true false p q r e = (
-    (λ v z. absurd (let y : ◌≡◌ {A = ℕ} 0 1 = cc in omega arith)),
-    (λ z j l. omega (arith, h.field, l, leb-false LEAST x.field q)),
-  )
-  reserve-cases false c p q r e = (
-    (λ v z. absurd (let y : ◌≡◌ {A = ℕ} 0 1 = cc in omega arith)),
-    (λ z j l. eqb-false x.name JUNK p (h.name ∙ j)),
-  )
-
-  pub reserve-room : (v : Reserve) → reserve_as x ≡ reserve.Room v → (number 4 12 s ≡ JUNK) × (LEAST ≤ number 4 16 s)
-  unfolding reserve_as
-  reserve-room v e = (reserve-cases _ _ refl refl _ refl).0 v e
-
-  pub reserve-none : reserve_as x ≡ reserve.None → number 4 12 s ≡ JUNK → LEAST ≤ number 4 16 s → ⊥
-  unfolding reserve_as
-  reserve-none e = (reserve-cases _ _ refl refl _ refl).1 e
-
 -- ---- the entry's promise
 
 module _ (t : Target) (s : List ℕ) where
@@ -197,49 +162,99 @@ module _ (t : Target) (s : List ℕ) where
       let q = upgrade_refused t s r e in
       record { verdict = sym (ap verdict_of q); bytes = sym (ap (file_after s) q) }
 
-module _ (s : List ℕ) (k : Listing) (block : ℕ) (w : Knows s k block) where
+module _ (s : List ℕ) (k : Accepted) (w : Knows s k) where
   abbrev a : Scan
   a = w.scanned
 
   -- the block is at least 1
-  pub known-block : 1 ≤ block
-  unfolding judged whole_blocks
+  pub known-block : 1 ≤ k.format.block
+  unfolding judged whole_blocks accepted_of
   known-block =
       let j = and_then-given (format_in (payload (find FMT a.rows) s)) _ a.format (scan-scanned s a w.is).format in
       let c = check-given (eqb ((find DATA a.rows).size % j.0.block) 0) RaggedAudio (given j.0) a.format j.2 in
-      subst (λ (n : ℕ). 1 ≤ n) (sym w.block_is)
+      subst (λ (x : Accepted). 1 ≤ x.format.block) (sym w.known)
       (subst (λ (f : Format). 1 ≤ f.block) (given-inj j.0 a.format c.1) (block-least _ j.0 j.1))
 
   -- fact's first 4 bytes lie in the file
   pub fact-within : (p : ℕ) → k.fact ≡ fact.At p → p + 4 ≤ length s
-  fact-within p q = (fact-at s a p w.is (sym (known-fact w) ∙ q)).inside
+  unfolding accepted_of fact_in past
+  fact-within p q = go (eqb (count FACT a.rows) 0) refl (sym (ap (λ (x : Accepted). x.fact) w.known) ∙ q)
+    where
+      go : (b : Bool) → eqb (count FACT a.rows) 0 ≡ b → pick b fact.None (fact.At (find FACT a.rows).place) ≡ fact.At p
+          → p + 4 ≤ length s
+      go true h e = absurd (let z : ◌≡◌ {A = ℕ} 0 1 = cc in omega arith)
+      go false h e =
+          let l = (scan-scanned s a w.is).listed in
+          let n : count FACT a.rows ≡ 0 → ⊥ = eqb-false _ _ h in
+          let y = laid-lies l.laid (found FACT a.rows (omega (arith, n))).mem in
+          let here : (find FACT a.rows).place ≡ p = cc in
+          omega (arith, here, y.ends, l.chunked.fact_holds n)
 
-  -- so does data's field
-  pub data-within : (20 ≤ k.audio.place) × (k.audio.place ≤ length s)
-  unfolding kept_of payload_of past
+  -- and so does data's size field
+  pub data-within : (4 ≤ k.audio.place) × (k.audio.place ≤ length s)
+  unfolding accepted_of payload_of past
   data-within =
       let l = (scan-scanned s a w.is).listed in
       let y = laid-lies l.laid (found DATA a.rows (omega (arith, l.chunked.one_data))).mem in
-      let p : k.audio.place ≡ (find DATA a.rows).place = ap (λ (x : Listing). x.audio.place) w.kept in
+      let p : k.audio.place ≡ (find DATA a.rows).place = ap (λ (x : Accepted). x.audio.place) w.known in
       (omega (arith, p, y.after), omega (arith, p, y.ends))
 
   riff-scanned : k.head.form ≡ Riff → a.head.form ≡ Riff
-  riff-scanned r = sym (ap (λ (x : Head). x.form) (known-head w)) ∙ r
+  unfolding accepted_of
+  riff-scanned r = sym (ap (λ (x : Accepted). x.head.form) w.known) ∙ r
 
-  -- a RIFF file has a first header
-  pub first-whole : k.head.form ≡ Riff → 20 ≤ length s
-  first-whole r = omega (arith, (first-row s a w.is (riff-scanned r)).ends)
+  -- the first header is the first chunk's
+  first-is : k.head.form ≡ Riff → (k.first.name ≡ number 4 12 s) × (k.first.field ≡ number 4 16 s)
+  unfolding accepted_of header_of place_of is_wide
+  first-is r =
+      let f : k.first ≡ header_of (place_of a.head.form s) s = ap (λ (x : Accepted). x.first) w.known in
+      let g : k.first ≡ header_of 20 s = f ∙ ap (λ (x : Form). header_of (place_of x s) s) (riff-scanned r) in
+      (ap (λ (h : Header). h.name) g, ap (λ (h : Header). h.field) g)
 
-  pub ready : k.head.form ≡ Riff → LEAST ≤ number 4 16 s → Ready s k block
+  reserve-cases : k.head.form ≡ Riff → (b c : Bool) → eqb k.first.name JUNK ≡ b → leb LEAST k.first.field ≡ c
+      → (x : Reserved) → pick (b && c) (reserve.Room (record { size = k.first.field })) reserve.None ≡ x
+      → ((v : Reserve) → x ≡ reserve.Room v → (number 4 12 s ≡ JUNK) × (LEAST ≤ number 4 16 s))
+      × (x ≡ reserve.None → number 4 12 s ≡ JUNK → LEAST ≤ number 4 16 s → ⊥)
+  unfolding pick
+  reserve-cases r true true p q x e =
+      let f = first-is r in (
+        (λ v h. (sym f.0 ∙ eqb-true k.first.name JUNK p, omega (arith, f.1, leb-true LEAST k.first.field q))),
+        (λ h. absurd (let z : ◌≡◌ {A = ℕ} 0 1 = cc in omega arith)),
+      )
+  reserve-cases r true false p q x e =
+      let f = first-is r in (
+        (λ v h. absurd (let z : ◌≡◌ {A = ℕ} 0 1 = cc in omega arith)),
+        (λ h j l. omega (arith, f.1, l, leb-false LEAST k.first.field q)),
+      )
+  reserve-cases r false true p q x e =
+      let f = first-is r in (
+        (λ v h. absurd (let z : ◌≡◌ {A = ℕ} 0 1 = cc in omega arith)),
+        (λ h j l. eqb-false k.first.name JUNK p (f.0 ∙ j)),
+      )
+  reserve-cases r false false p q x e =
+      let f = first-is r in (
+        (λ v h. absurd (let z : ◌≡◌ {A = ℕ} 0 1 = cc in omega arith)),
+        (λ h j l. eqb-false k.first.name JUNK p (f.0 ∙ j)),
+      )
+
+  pub reserve-room : k.head.form ≡ Riff → (v : Reserve) → reserve_as k.first ≡ reserve.Room v → (number 4 12 s ≡ JUNK) × (LEAST ≤ number 4 16 s)
+  unfolding reserve_as
+  reserve-room r v e = (reserve-cases r _ _ refl refl _ refl).0 v e
+
+  pub reserve-none : k.head.form ≡ Riff → reserve_as k.first ≡ reserve.None → number 4 12 s ≡ JUNK → LEAST ≤ number 4 16 s → ⊥
+  unfolding reserve_as
+  reserve-none r e = (reserve-cases r _ _ refl refl _ refl).1 e
+
+  pub ready : k.head.form ≡ Riff → LEAST ≤ number 4 16 s → Ready s k
   ready r h =
       let f = first-row s a w.is (riff-scanned r) in
       record { knows = w; riff = r; long = omega (arith, f.ends, f.sized) }
 
   module _ (t : Target) where
     pub done-wide : is_wide k.head.form ≡ true → UpgradeDone t s (verdict.Refused Already64) s
-    unfolding verdict_of file_after
+    unfolding verdict_of file_after accepted_of
     done-wide v =
-        let q = upgrade-wide t s a w.is (sym (ap (λ (x : Head). is_wide x.form) (known-head w)) ∙ v) in
+        let q = upgrade-wide t s a w.is (sym (ap (λ (x : Accepted). is_wide x.head.form) w.known) ∙ v) in
         record { verdict = sym (ap verdict_of q); bytes = sym (ap (file_after s) q) }
 
     narrow : k.head.form ≡ Riff → is_wide a.head.form ≡ false
@@ -261,7 +276,7 @@ module _ (s : List ℕ) (k : Listing) (block : ℕ) (w : Knows s k block) where
             both true false n = refl
             both false c n = refl
 
-    pub done-stored : k.head.form ≡ Riff → number 4 12 s ≡ JUNK → LEAST ≤ number 4 16 s → (u : List ℕ) → u ≡ patched (stores t k block s) s
+    pub done-stored : k.head.form ≡ Riff → number 4 12 s ≡ JUNK → LEAST ≤ number 4 16 s → (u : List ℕ) → u ≡ patched (stores t k s) s
         → UpgradeDone t s verdict.Accepted u
     unfolding verdict_of file_after reserved
     done-stored r j h u p =
@@ -273,7 +288,7 @@ module _ (s : List ℕ) (k : Listing) (block : ℕ) (w : Knows s k block) where
         record {
           verdict = sym (ap verdict_of q);
           bytes =
-              p ∙ ap₂ (λ (x : Listing) (n : ℕ). patched (stores t x n s) s) w.kept w.block_is
+              p ∙ ap (λ (x : Accepted). patched (stores t x s) s) w.known
               ∙ ap (λ (l : List Patch). patched l s) (stores_same s a w.is t)
               ∙ sym (ap (file_after s) q);
         }

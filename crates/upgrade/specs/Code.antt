@@ -3,23 +3,31 @@ use Rattle.std.specs.Prelude.{ℕ, ◌+◌, ◌-◌, ◌/◌, ◌≤◌, ◌≡�
 use Rattle.le.specs.Number.{number}
 use Rattle.le.specs.Choice.{pick}
 use Rattle.chunk.specs.declared.Header.{Header}
+use Rattle.chunk.specs.Refusals.{given}
 use Rattle.chunk.specs.Names.{DS64, JUNK}
 use Rattle.chunk.specs.Fields.{ONES}
 use Rattle.form.specs.declared.Form.TheVariants.{Riff}
 use Rattle.form.specs.Forms.{LEAST}
-use Rattle.listing.specs.declared.Listing.{Listing}
+use Rattle.wave.specs.declared.judgement.Accepted.{Accepted}
 use Rattle.listing.specs.declared.Fact.{Fact}
 use Rattle.listing.specs.declared.Fact.TheVariants as fact
-use Rattle.wave.specs.Code.{Knows}
+use Rattle.wave.specs.Scans.{Scan, scan}
+use Rattle.wave.specs.Code.{accepted_of}
 use Rattle.upgrade.specs.declared.Reserved.{Reserved}
 use Rattle.upgrade.specs.declared.Reserved.TheVariants as reserve
 use Rattle.upgrade.specs.declared.Target.{Target}
 use Rattle.upgrade.specs.declared.Target.TheVariants.{Rf64, Bw64}
 use Rattle.upgrade.specs.Upgrades.{Patch, patch, halves, target_name}
 
--- a RIFF file that was listed and judged, with room for a ds64
-pub record Ready (s : List ℕ) (k : Listing) (block : ℕ) : Type 0 where
-  pub knows : Knows s k block
+-- what is known of a file is what the scan knows of it
+pub record Knows (s : List ℕ) (k : Accepted) : Type 0 where
+  pub scanned : Scan
+  pub is : scan s ≡ given scanned
+  pub known : k ≡ accepted_of s scanned
+
+-- a RIFF file with room for a ds64
+pub record Ready (s : List ℕ) (k : Accepted) : Type 0 where
+  pub knows : Knows s k
   pub riff : k.head.form ≡ Riff
   pub long : 20 + LEAST ≤ length s
 
@@ -28,13 +36,13 @@ unfoldable pub reserve_as : Header → Reserved
 unfolding pick
 reserve_as h = pick (eqb h.name JUNK && leb LEAST h.field) (reserve.Room (record { size = h.field })) reserve.None
 
-unfoldable pub third_as : Fact → (audio block : ℕ) → List ℕ → ℕ
-third_as fact.None audio block s = audio / block
-third_as (fact.At p) audio block s = number 4 p s
+unfoldable pub third_as : Fact → Accepted → List ℕ → ℕ
+third_as fact.None k s = k.audio.size / k.format.block
+third_as (fact.At p) k s = number 4 p s
 
-unfoldable pub third_of : Target → Listing → (block : ℕ) → List ℕ → ℕ
-third_of Rf64 k block s = third_as k.fact k.audio.size block s
-third_of Bw64 k block s = 0
+unfoldable pub third_of : Target → Accepted → List ℕ → ℕ
+third_of Rf64 k s = third_as k.fact k s
+third_of Bw64 k s = 0
 
 unfoldable pub ds64_stores : ℕ → ℕ → ℕ → List Patch
 ds64_stores form_size data_size third =
@@ -55,8 +63,8 @@ pub record Within (m : Fact) (s : List ℕ) : Type 0 where
 unfoldable pub field_stores : ℕ → ℕ → List Patch
 field_stores at name = patch at ONES ∷ patch 4 ONES ∷ patch 0 name ∷ []
 
-unfoldable pub stores : Target → Listing → (block : ℕ) → List ℕ → List Patch
-stores t k block s =
-    ds64_stores (length s - 8) k.audio.size (third_of t k block s)
+unfoldable pub stores : Target → Accepted → List ℕ → List Patch
+stores t k s =
+    ds64_stores (length s - 8) k.audio.size (third_of t k s)
     ++ fact_store t k.fact
     ++ field_stores (k.audio.place - 4) (target_name t)

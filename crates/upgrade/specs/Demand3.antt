@@ -17,7 +17,6 @@ use Rattle.chunk.specs.Tables.{find}
 use Rattle.form.specs.declared.Form as form
 use Rattle.form.specs.declared.Form.TheVariants as form-variants
 use Rattle.form.specs.Forms.{LEAST}
-use Rattle.listing.specs.Listings.{Listing, listing}
 use Rattle.wave.specs.Scans.{Scan, scan, payload, walk32}
 use Rattle.samples.specs.Counts.{samples_of}
 use Rattle.wave.specs.Demand3.{SaysOwn, FirstHalf}
@@ -140,9 +139,7 @@ pub record SecondHalf (t : Target) (s : List ℕ) (a : Scan) : Type 0 where
 
 pub record Demand3 : Type 0 where
   -- "Take any file that the scan accepts .. and read it with the plain 32-bit walk"
-  pub first : (s : List ℕ) (a : Scan) → scan s ≡ given a → FirstHalf s a.rows
-  -- "The 32-bit walk is also compared with every accepted listing" (document 02), also of files whose format is refused
-  pub listed : (s : List ℕ) (l : Listing) → listing s ≡ given l → FirstHalf s l.rows
+  pub first : (s : List ℕ) (a : Scan) → scan s ≡ given a → FirstHalf s a
   -- "The 32-bit walk only ever says own field" (document 02), of any bytes
   pub own : (s : List ℕ) → SaysOwn s
   -- "Now take any accepted RIFF file, and RF64 or BW64 as target."

@@ -7,13 +7,12 @@ ghost use Rattle.form.specs.Forms.{LEAST};
 ghost use Rattle.upgrade.specs.Upgrades.{patched, target_name};
 ghost use Rattle.upgrade.specs.Words.{UpgradeDone};
 ghost use Rattle.upgrade.specs.ForTheCode.{KeepsDemand3};
-ghost use Rattle.wave.specs.Code.{Knows};
-ghost use Rattle.upgrade.specs.Code.{Ready, Within, reserve_as, third_of, fact_store, ds64_stores, field_stores, stores};
+ghost use Rattle.upgrade.specs.Code.{Knows, Ready, Within, reserve_as, third_of, fact_store, ds64_stores, field_stores, stores};
 
 use chunk::{Header, Name, Refusal, Verdict};
 use form::{Ds64, Form};
-use listing::{Fact, Listed, Listing};
-use wave::judgement::Judged;
+use listing::Fact;
+use wave::judgement::{Accepted, Examined};
 
 // What a file can be upgraded to: no other target can be named.
 #[derive(Drop)]
@@ -65,17 +64,17 @@ fn name_of(target: Target) -> u64
 }
 
 // The third number of the new ds64: fact's count, or the frames without fact; for BW64 zero.
-fn third(file: &[u8], target: Target, l: Listing, block: u64) -> u64
-    requires { Knows file.now l block }
-    ensures { result ≡ third_of target l block file.now }
+fn third(file: &[u8], target: Target, a: Accepted) -> u64
+    requires { Knows file.now a }
+    ensures { result ≡ third_of target a file.now }
 {
-    let fact = l.fact;
-    let audio = l.audio;
+    let fact = a.fact;
+    let audio = a.audio;
     match target {
         Target::Bw64 => 0,
         Target::Rf64 => match fact {
             Fact::At(place) => le::read4(file, place as usize),
-            Fact::None => audio.size / block,
+            Fact::None => audio.size / a.format.block,
         },
     }
 }
@@ -117,33 +116,34 @@ fn store_fields(file: &mut [u8], at: u64, name: u64)
 }
 
 // Makes all the stores, in the order that request (xii) of document 02 gives them.
-fn rewrite(file: &mut [u8], target: Target, l: Listing, block: u64)
-    requires { Ready file.old l block }
-    ensures { file.new ≡ patched (stores target l block file.old) file.old }
+fn rewrite(file: &mut [u8], target: Target, a: Accepted)
+    requires { Ready file.old a }
+    ensures { file.new ≡ patched (stores target a file.old) file.old }
 {
-    let number = third(file, target, l, block);
+    let number = third(file, target, a);
     let size = file.len() as u64 - 8;
-    let audio = l.audio;
-    let fact = l.fact;
+    let audio = a.audio;
+    let fact = a.fact;
     store_ds64(file, size, audio.size, number);
     store_fact(file, target, fact);
     store_fields(file, audio.place - 4, name_of(target));
 }
 
 // The upgrade of a file that the scan accepts: 18, 19, or the stores.
-fn convert(file: &mut [u8], target: Target, l: Listing, block: u64) -> Verdict
-    requires { Knows file.old l block }
+fn convert(file: &mut [u8], target: Target, a: Accepted) -> Verdict
+    requires { Knows file.old a }
     ensures { UpgradeDone target file.old result file.new }
 {
-    let head = l.head;
+    let head = a.head;
     let form = head.form;
+    let first = a.first;
     match form {
         Form::Rf64 => Verdict::Refused(Refusal::Already64),
         Form::Bw64 => Verdict::Refused(Refusal::Already64),
-        Form::Riff => match Reserve::of(chunk::steps::header(file, 20)) {
+        Form::Riff => match Reserve::of(first) {
             Reserved::None => Verdict::Refused(Refusal::NoReserve),
             Reserved::Room(_) => {
-                rewrite(file, target, l, block);
+                rewrite(file, target, a);
                 Verdict::Accepted
             }
         },
@@ -151,22 +151,13 @@ fn convert(file: &mut [u8], target: Target, l: Listing, block: u64) -> Verdict
 }
 
 // Upgrades a RIFF file in place; the scan's own refusal, 18 or 19 leave it as it was. Of an accepted RIFF file the second
-// half of demand 3 holds, whole. Each arm returns for itself, as in listing::list.
+// half of demand 3 holds, whole.
 pub fn upgrade(file: &mut [u8], target: Target) -> Verdict
     ensures upgrade_done { UpgradeDone target file.old result file.new }
     ensures demand3 { KeepsDemand3 target file.old result file.new }
 {
-    match listing::list(file) {
-        Listed::Refused(r) => {
-            return Verdict::Refused(r);
-        }
-        Listed::Listing(l) => match wave::judgement::judge_fresh(file, l) {
-            Judged::Refused(r) => {
-                return Verdict::Refused(r);
-            }
-            Judged::Block(block) => {
-                return convert(file, target, l, block);
-            }
-        },
+    match wave::judgement::examine(file) {
+        Examined::Refused(r) => Verdict::Refused(r),
+        Examined::Accepted(a) => convert(file, target, a),
     }
 }

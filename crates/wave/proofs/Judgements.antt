@@ -1,6 +1,6 @@
--- The inner judgement, one law for each outcome, and what a caller knows that has listed and judged a file.
+-- The judgement and the scan by their parts, and what the code keeps of an accepted file; one law for each outcome.
 -- Assumes nothing.
-use mathlib.Core.Path.{◌≡◌, refl, sym, ap, ◌∙◌, subst}
+use mathlib.Core.Path.{◌≡◌, refl, sym, ap, ◌∙◌}
 use mathlib.Core.List.{List}
 use Prim.Native.Nat.{ℕ, ◌+◌, ◌-◌, ◌%◌, ◌≤◌}
 use native.Mathlib.Omega.{arith}
@@ -11,11 +11,12 @@ use Rattle.le.specs.Number.{field}
 use Rattle.chunk.specs.declared.Entry.{Entry}
 use Rattle.chunk.specs.declared.Refusal.{Refusal}
 use Rattle.chunk.specs.declared.Refusal.TheVariants.{RaggedAudio}
+use Rattle.chunk.specs.declared.Verdict.TheVariants.{Accepted, Refused}
 use Rattle.chunk.specs.Refusals.{Answer, refused, given, and_then}
-use Rattle.chunk.specs.Names.{FMT, FACT}
+use Rattle.chunk.specs.Names.{FMT, DATA, FACT}
 use Rattle.chunk.specs.Tables.{count, find}
 use Rattle.chunk.specs.Walks.{past}
-use Rattle.chunk.proofs.Checks.{given-inj, picked, check-true, check-false, and_then-at, and_then-refused}
+use Rattle.chunk.proofs.Checks.{picked, check-true, check-false, and_then-at, and_then-refused}
 use Rattle.chunk.proofs.Laid.{laid-lies}
 use Rattle.chunk.proofs.Finds.{found}
 use Rattle.fmt.specs.declared.Format.{Format}
@@ -25,14 +26,24 @@ use Rattle.listing.specs.declared.Fact.{Fact}
 use Rattle.listing.specs.declared.Fact.TheVariants as fact
 use Rattle.listing.specs.declared.Listing as code
 use Rattle.listing.specs.declared.Listed.TheVariants as listed
-use Rattle.wave.specs.declared.judgement.Judged.TheVariants as judged-as
+use Rattle.wave.specs.declared.judgement.Accepted as accepted
+use Rattle.wave.specs.declared.judgement.Examined.TheVariants as examined
 use Rattle.listing.specs.Listings.{Listing, listing}
 use Rattle.wave.specs.Scans.{payload, whole_blocks, judged, Scan, scan}
-use Rattle.listing.specs.Code.{payload_of, fact_in, kept_of, listed_as, Fresh}
-use Rattle.wave.specs.Code.{judged_as, Knows}
+use Rattle.listing.specs.Code.{payload_of, fact_in, kept_of}
+use Rattle.wave.specs.Code.{FmtFits, judged_as, judge_of, examined_as, accepted_of}
 use Rattle.listing.proofs.Checked.{listing-checked}
-use Rattle.listing.proofs.Listings.{listed-refused, keeps}
-use Rattle.wave.proofs.Scanned.{scan-scanned, scan-listed}
+use Rattle.wave.proofs.Scanned.{scan-scanned}
+
+-- ---- what is judged
+
+-- its fmt payload lies in the file
+pub fmt-fits : (s : List ℕ) (l : Listing) → listing s ≡ given l → FmtFits (kept_of s l) s
+unfolding kept_of payload_of past
+fmt-fits s l e =
+    let d = listing-checked s l e in
+    let y = laid-lies d.laid (found FMT l.rows (omega (arith, d.chunked.one_fmt))).mem in
+    record { inside = omega (arith, y.ends) }
 
 -- ---- the judgement
 
@@ -59,84 +70,74 @@ pub format-refused : (s : List ℕ) (place size : ℕ) (r : Refusal)
     → read_as (format_in (take (place + size - place) (drop place s))) ≡ reading.Refused r → format_in (field size place s) ≡ refused r
 format-refused s place size r e = ap format_in (sym (same-part s place size)) ∙ read-refused _ r e
 
--- ---- a fresh listing
-
-module _ (s : List ℕ) (k : code.Listing) (f : Fresh s k) where
-  -- its fmt payload lies in the file
-  pub fmt-fits : k.fmt.place + k.fmt.size ≤ length s
-  unfolding kept_of payload_of past
-  fmt-fits =
-      let d = listing-checked s (keeps s k f).listing (keeps s k f).is in
-      let y = laid-lies d.laid (found FMT (keeps s k f).listing.rows (omega (arith, d.chunked.one_fmt))).mem in
-      subst (λ (x : code.Listing). x.fmt.place + x.fmt.size ≤ length s) (sym (keeps s k f).kept) (omega (arith, y.ends))
-
-  -- the scan is its judgement
-  scan-fresh : (x : Answer Format) → judged (field k.fmt.size k.fmt.place s) k.audio.size ≡ x
-      → scan s ≡ and_then x λ g. given (record { head = (keeps s k f).listing.head; rows = (keeps s k f).listing.rows; format = g })
-  unfolding scan kept_of payload_of payload
-  scan-fresh x e =
-      and_then-at (listing s) _ (keeps s k f).listing (keeps s k f).is
-      ∙ ap (λ (y : Answer Format). and_then y λ g. given (record { head = (keeps s k f).listing.head; rows = (keeps s k f).listing.rows; format = g }))
-      (ap (λ (y : code.Listing). judged (field y.fmt.size y.fmt.place s) y.audio.size) (sym (keeps s k f).kept) ∙ e)
-
+module _ (l : code.Listing) (s : List ℕ) where
   abbrev fmtPart : List ℕ
-  fmtPart = field k.fmt.size k.fmt.place s
+  fmtPart = field l.fmt.size l.fmt.place s
 
-  pub judge-fmt : (r : Refusal) → format_in fmtPart ≡ refused r → judged-as.Refused r ≡ judged_as (scan s)
-  unfolding judged judged_as and_then
-  judge-fmt r q = sym (ap judged_as (scan-fresh (refused r) (and_then-refused _ _ r q)))
+  pub judge-fmt : (r : Refusal) → format_in fmtPart ≡ refused r → judge_of l s ≡ examined.Refused r
+  unfolding judge_of judged_as judged
+  judge-fmt r q = ap (judged_as l) (and_then-refused _ _ r q)
 
-  pub judge-ragged : (g : Format) → format_in fmtPart ≡ given g → (k.audio.size % g.block ≡ 0 → ⊥)
-      → judged-as.Refused RaggedAudio ≡ judged_as (scan s)
-  unfolding judged judged_as whole_blocks and_then
-  judge-ragged g q n = sym (ap judged_as (scan-fresh (refused RaggedAudio) (and_then-at _ _ g q ∙ check-false _ _ _ (ne_eqb _ _ n))))
+  pub judge-ragged : (f : Format) → format_in fmtPart ≡ given f → (l.audio.size % f.block ≡ 0 → ⊥)
+      → judge_of l s ≡ examined.Refused RaggedAudio
+  unfolding judge_of judged_as judged whole_blocks
+  judge-ragged f q k = ap (judged_as l) (and_then-at _ _ f q ∙ check-false _ _ _ (ne_eqb _ _ k))
 
-  pub judge-good : (g : Format) → format_in fmtPart ≡ given g → k.audio.size % g.block ≡ 0
-      → judged-as.Block g.block ≡ judged_as (scan s)
-  unfolding judged judged_as whole_blocks and_then
-  judge-good g q n = sym (ap judged_as (scan-fresh (given g) (and_then-at _ _ g q ∙ check-true _ _ _ (eq-eqb _ _ n))))
+  pub judge-good : (f : Format) → format_in fmtPart ≡ given f → l.audio.size % f.block ≡ 0
+      → judge_of l s
+      ≡ examined.Accepted
+      (record { head = l.head; first = l.first; audio = l.audio; fact = l.fact; count = l.count; format = f })
+  unfolding judge_of judged_as judged whole_blocks
+  judge-good f q k = ap (judged_as l) (and_then-at _ _ f q ∙ check-true _ _ _ (eq-eqb _ _ k))
 
--- ---- both in turn
+-- ---- the scan
 
 pub scan-listing : (s : List ℕ) (r : Refusal) → listing s ≡ refused r → scan s ≡ refused r
 unfolding scan
 scan-listing s r e = and_then-refused _ _ r e
 
--- a listing that is refused
-pub list-scan : (s : List ℕ) (r : Refusal) → listed_as (listing s) ≡ listed.Refused r → scan s ≡ refused r
-list-scan s r e = scan-listing s r (listed-refused (listing s) r e)
-
--- a judgement that refuses
-pub judged-refused : (x : Answer Scan) (r : Refusal) → judged_as x ≡ judged-as.Refused r → x ≡ refused r
-unfolding judged_as
-judged-refused (refused q) r e = cc
-judged-refused (given a) r e = absurd (let z : ◌≡◌ {A = ℕ} 0 1 = cc in omega arith)
-
--- and one that accepts
-pub judged-block : (s : List ℕ) (k : code.Listing) (b : ℕ) → Fresh s k → judged_as (scan s) ≡ judged-as.Block b → Knows s k b
-unfolding judged_as
-judged-block s k b f e = go (scan s) refl e
+pub scan-judge : (s : List ℕ) (l : Listing) → listing s ≡ given l → judge_of (kept_of s l) s ≡ examined_as s (scan s)
+unfolding scan judge_of judged_as examined_as accepted_of kept_of payload_of payload
+scan-judge s l e =
+    same (judged (payload (find FMT l.rows) s) (find DATA l.rows).size)
+    ∙ sym (ap (examined_as s) (and_then-at (listing s) _ l e))
   where
-    go : (x : Answer Scan) → scan s ≡ x → judged_as x ≡ judged-as.Block b → Knows s k b
-    go (refused q) p j = absurd (let z : ◌≡◌ {A = ℕ} 0 1 = cc in omega arith)
-    go (given a) p j =
-        let h = keeps s k f in
-        record {
-          scanned = a;
-          is = p;
-          kept = h.kept ∙ ap kept_of (given-inj _ _ (sym h.is ∙ scan-listed s a p));
-          block_is = let z : a.format.block ≡ b = cc in sym z;
-        }
+    same : (x : Answer Format)
+        → judged_as (kept_of s l) x ≡ examined_as s (and_then x λ f. given (record { head = l.head; rows = l.rows; format = f }))
+    same (refused r) = refl
+    same (given f) = refl
 
-pub known-head : {s : List ℕ} {k : code.Listing} {b : ℕ} (w : Knows s k b) → k.head ≡ w.scanned.head
-unfolding kept_of
-known-head w = ap (λ (x : code.Listing). x.head) w.kept
+-- ---- what an examination tells
+
+pub examined-refused : (s : List ℕ) (x : Answer Scan) (r : Refusal) → examined_as s x ≡ examined.Refused r → x ≡ refused r
+unfolding examined_as accepted_of
+examined-refused s (refused q) r e = cc
+examined-refused s (given a) r e = absurd (let z : ◌≡◌ {A = ℕ} 0 1 = cc in omega arith)
+
+-- the scan of an accepted file, and what the code knows of it
+pub record Accepts (s : List ℕ) (x : Answer Scan) (k : accepted.Accepted) : Type 0 where
+  pub scan : Scan
+  pub is : x ≡ given scan
+  pub known : k ≡ accepted_of s scan
+  pub head : k.head ≡ scan.head
+  pub fact : k.fact ≡ fact_in scan.rows
+  pub count : k.count ≡ length scan.rows
+
+pub examined-accepted : (s : List ℕ) (x : Answer Scan) (k : accepted.Accepted) → examined_as s x ≡ examined.Accepted k → Accepts s x k
+unfolding examined_as accepted_of
+examined-accepted s (refused q) k e = absurd (let z : ◌≡◌ {A = ℕ} 0 1 = cc in omega arith)
+examined-accepted s (given a) k e =
+    let p : k ≡ accepted_of s a = cc in
+    record {
+      scan = a;
+      is = refl;
+      known = p;
+      head = ap (λ (y : accepted.Accepted). y.head) p;
+      fact = ap (λ (y : accepted.Accepted). y.fact) p;
+      count = ap (λ (y : accepted.Accepted). y.count) p;
+    }
 
 -- ---- fact
-
-pub known-fact : {s : List ℕ} {k : code.Listing} {b : ℕ} (w : Knows s k b) → k.fact ≡ fact_in w.scanned.rows
-unfolding kept_of
-known-fact w = ap (λ (x : code.Listing). x.fact) w.kept
 
 pub fact-none : (rows : List Entry) → fact_in rows ≡ fact.None → count FACT rows ≡ 0
 unfolding fact_in

@@ -2,7 +2,6 @@ pub mod AcceptsExactly
 pub mod Ds64Bytes
 pub mod Ends
 pub mod FirstHalf
-pub mod Freshness
 pub mod GoodFiles
 pub mod Judgements
 pub mod Scanned

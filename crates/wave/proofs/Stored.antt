@@ -1,6 +1,6 @@
--- Rows stored into words or compared with them, in the middle of a loop: what is due from here on. The invariant of the
--- 32-bit walk's loop and those of the loops that read a listed file once more, each with its moves: the start, a row, and
--- the end.
+-- Rows stored into words, in the middle of a loop: what is due to be stored from here on. The invariant of the 32-bit
+-- walk's loop and that of the loops that read an accepted file once more, each with its moves: the start, a row, and the
+-- end.
 -- Assumes nothing.
 use mathlib.Core.Path.{◌≡◌, refl, sym, ap, ap₂, ◌∙◌, subst}
 use mathlib.Core.Bool.{true, false, not}
@@ -8,10 +8,10 @@ use mathlib.Core.List.{List, [], ◌∷◌}
 use Prim.Native.Nat.{ℕ, suc, ◌+◌, ◌-◌, ◌*◌, ◌%◌, ◌≤◌, ◌<◌}
 use native.Mathlib.Nat.{zero-add, add-zero}
 use native.Mathlib.Omega.{arith}
-use lib.ListN.{length, set, drop, get_or, length-set}
-use lib.Seq.{sets, length-sets, drop-drop}
+use lib.ListN.{length, set, length-set}
+use lib.Seq.{sets, length-sets}
 use lib.Dec.{eqb}
-use borrow.Author.Tests.{eq-eqb, ne_eqb}
+use borrow.Author.Tests.{eq-eqb}
 use Rattle.le.specs.Number.{number}
 use Rattle.chunk.specs.declared.Entry.{Entry}
 use Rattle.chunk.specs.declared.Header.{Header}
@@ -23,16 +23,14 @@ use Rattle.chunk.specs.declared.Step.{Step}
 use Rattle.chunk.specs.declared.Step.TheVariants.{Chunk, Last, Cut, Stop}
 use Rattle.chunk.specs.Refusals.{given}
 use Rattle.chunk.specs.Fields.{ONES}
-use Rattle.chunk.specs.Tables.{all_words, begins, row_words, set_row, tabled, table_words, LIMIT, WORDS}
+use Rattle.chunk.specs.Tables.{row_words, set_row, tabled, LIMIT, WORDS}
 use Rattle.chunk.specs.Walks.{Rule, Walked, entry_of, past, step_at, walk, field_size, own_size}
 use Rattle.chunk.specs.Walks as walks
 use Rattle.chunk.specs.Code.{HeaderAt, Due, step_on, walk_after, full}
-use Rattle.le.specs.Choice.{pick}
-use Rattle.chunk.proofs.Begins.{begins-short, begins-at, begins-append}
-use Rattle.chunk.proofs.Checks.{check-given, pick_true, pick-false, true-false}
+use Rattle.chunk.proofs.Checks.{check-given, pick_true, true-false}
 use Rattle.chunk.proofs.Laid.{row-size, Laid, next, row_fits, step_end, walk-stop, walk-laid, laid-walk, Lies, laid-lies, Shown, relaid, own-given, own-only}
 use Rattle.chunk.proofs.Turns.{turn, turn-due, walk-full, step_cut}
-use Rattle.chunk.proofs.Filled.{all-length, filled, filled-tabled, row-length}
+use Rattle.chunk.proofs.Filled.{filled, filled-tabled, row-length}
 use Rattle.form.specs.declared.Form.{Form}
 use Rattle.form.specs.declared.Form.TheVariants.{Riff, Rf64, Bw64}
 use Rattle.form.specs.declared.Head.{Head}
@@ -41,7 +39,7 @@ use Rattle.truesize.specs.Sizes.{true_size, ones_size, stray_ds64, entries_of}
 use Rattle.truesize.proofs.Sizes.{own_is, riff-own}
 use Rattle.listing.specs.Listings.{headers}
 use Rattle.listing.specs.Code.{rule}
-use Rattle.wave.specs.Code.{rows_from, WalkStored, Finishes, Rowed, WideRows, Ended, Fills}
+use Rattle.wave.specs.Code.{rows_from, WalkStored, Finishes, Rowed, WideRows, Fills}
 
 -- ---- rows stored from a word on
 
@@ -202,182 +200,88 @@ bare-end s w l h = bare s w Accepted l (step_end own_size s LIMIT 12 (sym h))
 pub bare-cut : (s w : List ℕ) → WORDS ≤ length w → 12 < length s → length s < 20 → WalkStored own_size s w (Refused CutHeader) (set w 0 0)
 bare-cut s w l h k = bare s w (Refused CutHeader) l (step_cut own_size s LIMIT 12 h (omega arith))
 
--- ---- a listed file, read once more
+-- ---- an accepted file, read once more
 
--- the rows from a place on are laid there, and their words end where they should
-pub record Again (rule : Rule) (s : List ℕ) (stop place row : ℕ) (left : List Entry) : Type 0 where
+-- the rows from a place on, and those that stand ahead
+pub record Filling (rule : Rule) (s w₀ w : List ℕ) (stop place row : ℕ) : Type 0 where
+  pub left : List Entry
   pub start : 8 ≤ place
   pub even : place % 2 ≡ 0
   pub laid : Laid rule s (place - 8) left
   pub stops : row + 4 * length left ≡ stop
-
-pub again-start : (rule : Rule) (s : List ℕ) (stop : ℕ) → (walk rule s LIMIT 12).end ≡ Accepted
-    → stop ≡ 1 + 4 * length (walk rule s LIMIT 12).rows → Again rule s stop 20 1 (walk rule s LIMIT 12).rows
-again-start rule s stop e n =
-    record { start = omega arith; even = refl; laid = (walk-laid rule s LIMIT 12 e).laid; stops = sym n }
-
--- the row at a place, and the rest after it
-pub record Turn (rule : Rule) (s : List ℕ) (stop place row : ℕ) (left : List Entry) : Type 0 where
-  pub entry : Entry
-  pub rest : List Entry
-  pub split : left ≡ entry ∷ rest
-  pub whole : place ≤ length s
-  pub sized : rule (place - 8) (number 4 (place - 8) s) (number 4 (place - 4) s) ≡ given (row-size entry)
-  pub ends : place + entry.size + entry.size % 2 ≤ length s
-  pub holds : row + 4 ≤ stop
-  -- an entry that is made of its header and its size is the row
-  pub made : (name : ℕ) (size : TrueSize) (x : Entry) → name ≡ number 4 (place - 8) s → size ≡ row-size entry
-      → x ≡ entry_of place name size → x ≡ entry
-  pub after : (size : TrueSize) (to : ℕ) → size ≡ row-size entry → to ≡ place + size.bytes + size.bytes % 2 + 8
-      → Again rule s stop to (row + 4) rest
-
-pub again-turn : (rule : Rule) (s : List ℕ) (stop place row : ℕ) (left : List Entry) → Again rule s stop place row left → row < stop
-    → Turn rule s stop place row left
-unfolding past
-again-turn rule s stop place row left f h = go left refl f.laid f.stops
-  where
-    go : (xs : List Entry) → left ≡ xs → Laid rule s (place - 8) xs → row + 4 * length xs ≡ stop → Turn rule s stop place row left
-    go [] e l n = absurd (omega arith)
-    go (x ∷ xs) e (next r l) n =
-        let p : x.place ≡ place = omega (arith, r.place, f.start) in
-        let q : place - 8 + 4 ≡ place - 4 = omega (arith, f.start) in
-        record {
-          entry = x;
-          rest = xs;
-          split = e;
-          whole = omega (arith, row_fits r, f.start);
-          sized = rw q at (ap (λ (n : ℕ). rule (place - 8) n (number 4 (place - 8 + 4) s)) r.named ∙ r.sized);
-          ends = omega (arith, r.ends, p);
-          holds = omega arith;
-          made = λ name size y nm sz is. is ∙ (λ i. entry_of (sym p i) ((nm ∙ r.named) i) (sz i));
-          after = λ size to sz at.
-              let b : to - 8 ≡ past x = omega (arith, at, p, ap (λ (t : TrueSize). t.bytes) sz) in
-              record {
-                start = omega (arith, at);
-                even = omega (arith, at, f.even);
-                laid = subst (λ (k : ℕ). Laid rule s k xs) (sym b) l;
-                stops = omega arith;
-              };
-        }
-
--- no row is left
-pub again-end : {rule : Rule} {s : List ℕ} {stop place row : ℕ} {left : List Entry} → Again rule s stop place row left → (row < stop → ⊥)
-    → left ≡ []
-again-end {left = []} f h = refl
-again-end {left = x ∷ xs} f h = absurd (h (omega (arith, f.stops)))
-
--- ---- its rows stored
-
-pub record Filling (rule : Rule) (s w₀ w : List ℕ) (stop place row : ℕ) : Type 0 where
-  pub left : List Entry
-  pub again : Again rule s stop place row left
   pub room : stop ≤ length w₀
   pub same : length w ≡ length w₀
   pub words : rows_from w row left ≡ rows_from w₀ 1 (walk rule s LIMIT 12).rows
 
 pub filling-start : (rule : Rule) (s : List ℕ) (stop : ℕ) (w : List ℕ) → Rowed rule s stop w → Filling rule s w w stop 20 1
 filling-start rule s stop w r =
+    let l = walk-laid rule s LIMIT 12 r.end in
     record {
       left = (walk rule s LIMIT 12).rows;
-      again = again-start rule s stop r.end r.stops;
-      room = r.room;
+      start = omega arith;
+      even = refl;
+      laid = l.laid;
+      stops = sym r.stops;
+      room = omega (arith, r.stops, l.few, r.room);
       same = refl;
       words = refl;
     }
 
-pub filling-turn : {rule : Rule} {s w₀ w : List ℕ} {stop place row : ℕ} (f : Filling rule s w₀ w stop place row) → row < stop
-    → Turn rule s stop place row f.left
-filling-turn f h = again-turn _ _ _ _ _ _ f.again h
+-- the row at a place, and the rest after it is stored
+pub record Ahead (rule : Rule) (s w₀ w : List ℕ) (stop place row : ℕ) : Type 0 where
+  pub entry : Entry
+  pub whole : place ≤ length s
+  pub sized : rule (place - 8) (number 4 (place - 8) s) (number 4 (place - 4) s) ≡ given (row-size entry)
+  pub ends : place + entry.size + entry.size % 2 ≤ length s
+  pub holds : row + 4 ≤ length w
+  pub after : (name : ℕ) (size : TrueSize) (x : Entry) (v : List ℕ) (to : ℕ) → name ≡ number 4 (place - 8) s
+      → size ≡ row-size entry → x ≡ entry_of place name size → v ≡ sets w row (row_words x)
+      → to ≡ place + size.bytes + size.bytes % 2 + 8 → Filling rule s w₀ v stop to (row + 4)
 
-pub filling-holds : {rule : Rule} {s w₀ w : List ℕ} {stop place row : ℕ} (f : Filling rule s w₀ w stop place row) → row < stop → row + 4 ≤ length w
-filling-holds f h = omega (arith, (filling-turn f h).holds, f.room, f.same)
+pub filling-next : (rule : Rule) (s w₀ w : List ℕ) (stop place row : ℕ) → Filling rule s w₀ w stop place row → row < stop
+    → Ahead rule s w₀ w stop place row
+unfolding rows_from past
+filling-next rule s w₀ w stop place row f h = go f.left f.laid f.stops f.words
+  where
+    same : (x : Entry) (name : ℕ) (size : TrueSize) → name ≡ x.name → size ≡ row-size x → x.place ≡ place → entry_of place name size ≡ x
+    same x name size n z p = λ i. entry_of (sym p i) (n i) (z i)
 
-pub filling-next : (rule : Rule) (s w₀ w : List ℕ) (stop place row : ℕ) (f : Filling rule s w₀ w stop place row)
-    (t : Turn rule s stop place row f.left) (name : ℕ) (size : TrueSize) (x : Entry) (v : List ℕ) (to : ℕ)
-    → name ≡ number 4 (place - 8) s → size ≡ row-size t.entry → x ≡ entry_of place name size → v ≡ sets w row (row_words x)
-    → to ≡ place + size.bytes + size.bytes % 2 + 8 → Filling rule s w₀ v stop to (row + 4)
-unfolding rows_from
-filling-next rule s w₀ w stop place row f t name size x v to nm sz is st at =
-    record {
-      left = t.rest;
-      again = t.after size to sz at;
-      room = f.room;
-      same = ap length st ∙ length-sets w row (row_words x) ∙ f.same;
-      words =
-          ap (λ (u : List ℕ). rows_from u (row + 4) t.rest) (st ∙ ap (λ (z : Entry). sets w row (row_words z)) (t.made name size x nm sz is))
-          ∙ ap (rows_from w row) (sym t.split) ∙ f.words;
-    }
+    go : (left : List Entry) → Laid rule s (place - 8) left → row + 4 * length left ≡ stop
+        → rows_from w row left ≡ rows_from w₀ 1 (walk rule s LIMIT 12).rows → Ahead rule s w₀ w stop place row
+    go [] l n e = absurd (omega arith)
+    go (x ∷ xs) (next r l) n e =
+        let p : x.place ≡ place = omega (arith, r.place, f.start) in
+        let q : place - 8 + 4 ≡ place - 4 = omega (arith, f.start) in
+        record {
+          entry = x;
+          whole = omega (arith, row_fits r, f.start);
+          sized = rw q at (ap (λ (n : ℕ). rule (place - 8) n (number 4 (place - 8 + 4) s)) r.named ∙ r.sized);
+          ends = omega (arith, r.ends, p);
+          holds = omega (arith, f.same, f.room);
+          after = λ name size y v to nm sz is st at.
+              let b : to - 8 ≡ past x = omega (arith, at, p, ap (λ (t : TrueSize). t.bytes) sz) in
+              let here : y ≡ x = is ∙ same x name size (nm ∙ r.named) sz p in
+              record {
+                left = xs;
+                start = omega (arith, at);
+                even = omega (arith, at, f.even);
+                laid = subst (λ (k : ℕ). Laid rule s k xs) (sym b) l;
+                stops = omega arith;
+                room = f.room;
+                same = ap length st ∙ length-sets w row (row_words y) ∙ f.same;
+                words = ap (λ (u : List ℕ). rows_from u (row + 4) xs) (st ∙ ap (λ (z : Entry). sets w row (row_words z)) here) ∙ e;
+              };
+        }
 
 pub filling-end : (rule : Rule) (s w₀ w : List ℕ) (stop place row : ℕ) → Filling rule s w₀ w stop place row → (row < stop → ⊥)
     → w ≡ rows_from w₀ 1 (walk rule s LIMIT 12).rows
 unfolding rows_from
-filling-end rule s w₀ w stop place row f h = ap (rows_from w row) (sym (again-end f.again h)) ∙ f.words
-
--- ---- its rows compared
-
--- the words past the first begin with all rows where they begin, from here on, with the rows from here on
-pub record Comparing (rule : Rule) (s t : List ℕ) (stop place row : ℕ) : Type 0 where
-  pub left : List Entry
-  pub again : Again rule s stop place row left
-  pub room : stop ≤ length t
-  pub words : begins (all_words (walk rule s LIMIT 12).rows) (drop 1 t) ≡ begins (all_words left) (drop row t)
-
--- the words are too few, or another number comes first
-pub too_few : (rows : List Entry) (t : List ℕ) (n stop : ℕ) → n ≡ length rows → stop ≡ 1 + 4 * n → length t < stop
-    → begins (table_words rows) t ≡ false
-unfolding table_words
-too_few rows t n stop e k h = begins-short (length rows ∷ all_words rows) t (omega (arith, e, k, h, all-length rows))
-
-count-begins : (rows : List Entry) (t : List ℕ) → 1 ≤ length t
-    → begins (table_words rows) t ≡ pick (eqb (get_or t 0 0) (length rows)) (begins (all_words rows) (drop 1 t)) false
-unfolding table_words
-count-begins rows t h = begins-at (length rows) (all_words rows) t 0 h
-
-pub other-count : (rows : List Entry) (t : List ℕ) (n : ℕ) → n ≡ length rows → 1 ≤ length t → (get_or t 0 0 ≡ n → ⊥)
-    → begins (table_words rows) t ≡ false
-other-count rows t n e l h = count-begins rows t l ∙ pick-false _ _ _ (ne_eqb _ _ (λ q. h (q ∙ sym e)))
-
-pub same_count : (rows : List Entry) (t : List ℕ) (n : ℕ) → n ≡ length rows → 1 ≤ length t → get_or t 0 0 ≡ n
-    → begins (table_words rows) t ≡ begins (all_words rows) (drop 1 t)
-same_count rows t n e l h = count-begins rows t l ∙ pick_true _ _ _ (eq-eqb _ _ (h ∙ e))
-
-pub comparing-start : (rule : Rule) (s : List ℕ) (stop : ℕ) (t : List ℕ) → Rowed rule s stop t → Comparing rule s t stop 20 1
-comparing-start rule s stop t r =
-    record {
-      left = (walk rule s LIMIT 12).rows;
-      again = again-start rule s stop r.end r.stops;
-      room = r.room;
-      words = refl;
-    }
-
-module _ (rule : Rule) (s t : List ℕ) (stop place row : ℕ) (f : Comparing rule s t stop place row) (u : Turn rule s stop place row f.left) where
-  -- the row decides, and then the rest does
-  row_first : begins (all_words (walk rule s LIMIT 12).rows) (drop 1 t)
-      ≡ pick (begins (row_words u.entry) (drop row t)) (begins (all_words u.rest) (drop (row + 4) t)) false
-  unfolding all_words row_words
-  row_first =
-      f.words ∙ ap (λ (l : List Entry). begins (all_words l) (drop row t)) u.split
-      ∙ begins-append (row_words u.entry) (all_words u.rest) (drop row t)
-      ∙ ap (λ (l : List ℕ). pick (begins (row_words u.entry) (drop row t)) (begins (all_words u.rest) l) false) (drop-drop 4 row t)
-
-  module _ (name : ℕ) (size : TrueSize) (x : Entry) (nm : name ≡ number 4 (place - 8) s) (sz : size ≡ row-size u.entry)
-      (is : x ≡ entry_of place name size) where
-    here : begins (row_words x) (drop row t) ≡ begins (row_words u.entry) (drop row t)
-    here = ap (λ (z : Entry). begins (row_words z) (drop row t)) (u.made name size x nm sz is)
-
-    pub comparing-other : begins (row_words x) (drop row t) ≡ false → begins (all_words (walk rule s LIMIT 12).rows) (drop 1 t) ≡ false
-    comparing-other e = row_first ∙ pick-false _ _ _ (sym here ∙ e)
-
-    pub comparing-next : (to : ℕ) → begins (row_words x) (drop row t) ≡ true → to ≡ place + size.bytes + size.bytes % 2 + 8
-        → Comparing rule s t stop to (row + 4)
-    comparing-next to e at =
-        record { left = u.rest; again = u.after size to sz at; room = f.room; words = row_first ∙ pick_true _ _ _ (sym here ∙ e) }
-
-pub comparing-end : (rule : Rule) (s t : List ℕ) (stop place row : ℕ) → Comparing rule s t stop place row → (row < stop → ⊥)
-    → begins (all_words (walk rule s LIMIT 12).rows) (drop 1 t) ≡ true
-unfolding all_words begins
-comparing-end rule s t stop place row f h =
-    f.words ∙ ap (λ (l : List Entry). begins (all_words l) (drop row t)) (again-end f.again h)
+filling-end rule s w₀ w stop place row f h = go f.left f.stops f.words
+  where
+    go : (left : List Entry) → row + 4 * length left ≡ stop → rows_from w row left ≡ rows_from w₀ 1 (walk rule s LIMIT 12).rows
+        → w ≡ rows_from w₀ 1 (walk rule s LIMIT 12).rows
+    go [] n e = e
+    go (x ∷ xs) n e = absurd (h (omega arith))
 
 -- ---- the size of a row, from its header
 
@@ -388,7 +292,7 @@ own-size s place x t a e = ap field_size a.field ∙ sym (own-only (place - 8) (
 
 module _ (h : Head) (s : List ℕ) (place : ℕ) (x : Header) (t : TrueSize) (a : HeaderAt place s x)
     (e : rule h s (place - 8) (number 4 (place - 8) s) (number 4 (place - 4) s) ≡ given t) where
-  -- in the listing too, where it is not all ones
+  -- in the scan too, where it is not all ones
   pub true-size : (x.field ≡ ONES → ⊥) → field_size x.field ≡ t
   true-size n = ap field_size a.field ∙ sym (own_is h (entries_of h s) _ _ _ t e (λ q. n (a.field ∙ q)))
 
@@ -423,37 +327,36 @@ riff-headers h s w e =
         let t = own_is h (entries_of h s) at x.name field (row-size x) y.sized k in
         record { named = y.named; sized = own-given at x.name field k ∙ ap given (sym t) }
 
--- ---- the table of a listed file
-
-module _ (h : Head) (s : List ℕ) (n : ℕ) (e : Ended h s n) where
-  pub ended-few : n ≤ LIMIT
-  unfolding headers
-  ended-few = omega (arith, e.count, (walk-laid (rule h s) s LIMIT 12 e.end).few)
-
-  -- its rows, where there are words for them
-  pub ended-wide : (w : List ℕ) → 1 + 4 * n ≤ length w → WideRows h s (1 + 4 * n) w
-  unfolding headers
-  ended-wide w l =
-      record { fit = e.fit; rows = record { end = e.end; stops = ap (λ (k : ℕ). 1 + 4 * k) e.count; room = l } }
-
-  pub ended-own : (w : List ℕ) → 1 + 4 * n ≤ length w → is_wide h.form ≡ false → Rowed own_size s (1 + 4 * n) w
-  ended-own w l k =
-      let p = riff-headers h s k e.end in
-      record {
-        end = ap (λ (x : Walked). x.end) p ∙ e.end;
-        stops = ap (λ (k : ℕ). 1 + 4 * k) (e.count ∙ sym (ap (λ (x : Walked). length x.rows) p));
-        room = l;
-      }
+-- ---- the table of an accepted file
 
 module _ (h : Head) (s : List ℕ) (n : ℕ) (w : List ℕ) (f : Fills h s n w) where
-  pub fills-room : 1 + 4 * n ≤ length w
-  fills-room = omega (arith, f.room, ended-few h s n f.ended)
+  pub fills-few : n ≤ LIMIT
+  unfolding headers
+  fills-few = omega (arith, f.count, (walk-laid (rule h s) s LIMIT 12 f.end).few)
 
-  -- the rows that are stored in RIFF are those of the listing's walk
+  pub fills-wide : WideRows h s (1 + 4 * n) w
+  unfolding headers
+  fills-wide =
+      record {
+        fit = f.fit;
+        rows = record { long = f.long; end = f.end; stops = ap (λ (k : ℕ). 1 + 4 * k) f.count; room = f.room };
+      }
+
+  pub fills-own : is_wide h.form ≡ false → Rowed own_size s (1 + 4 * n) w
+  fills-own k =
+      let p = riff-headers h s k f.end in
+      record {
+        long = f.long;
+        end = ap (λ (x : Walked). x.end) p ∙ f.end;
+        stops = ap (λ (k : ℕ). 1 + 4 * k) (f.count ∙ sym (ap (λ (x : Walked). length x.rows) p));
+        room = f.room;
+      }
+
+  -- the rows that are stored in RIFF are those of the scan's walk
   pub fills-rows : is_wide h.form ≡ false → rows_from w 1 (walk own_size s LIMIT 12).rows ≡ rows_from w 1 (headers h s).rows
-  fills-rows k = ap (λ (x : Walked). rows_from w 1 x.rows) (riff-headers h s k f.ended.end)
+  fills-rows k = ap (λ (x : Walked). rows_from w 1 x.rows) (riff-headers h s k f.end)
 
   pub fills-tabled : (w' : List ℕ) → w' ≡ rows_from w 1 (headers h s).rows → set w' 0 n ≡ tabled (headers h s).rows w
   fills-tabled w' p =
       ap (λ (x : List ℕ). set x 0 n) p
-      ∙ rows-tabled w (headers h s).rows n f.ended.count (omega (arith, f.ended.count, fills-room))
+      ∙ rows-tabled w (headers h s).rows n f.count (omega (arith, f.room, f.count, fills-few))

@@ -1,39 +1,57 @@
--- What the code alone needs: the inner judgement, and rows stored into words.
+-- What the code alone needs: the judgement of a listing, what is known of an accepted file, and rows stored into words.
 use Rattle.std.specs.Prelude.{ℕ, ◌+◌, ◌*◌, ◌≤◌, ◌≡◌, List, [], ◌∷◌, length, set}
 use Rattle.std.proofs.lemmas.List.Edits.{sets}
+use Rattle.le.specs.Number.{field}
 use Rattle.chunk.specs.declared.Entry.{Entry}
 use Rattle.chunk.specs.declared.Verdict.{Verdict}
 use Rattle.chunk.specs.declared.Verdict.TheVariants as verdict
 use Rattle.chunk.specs.Refusals.{Answer, refused, given}
-use Rattle.chunk.specs.Tables.{row_words, tabled, LIMIT, WORDS}
+use Rattle.chunk.specs.Names.{DATA}
+use Rattle.chunk.specs.Tables.{find, row_words, tabled, LIMIT, WORDS}
 use Rattle.chunk.specs.Walks.{Rule, Walked, walk}
+use Rattle.chunk.specs.Code.{header_of}
 use Rattle.form.specs.declared.Head.{Head}
+use Rattle.form.specs.Code.{place_of}
 use Rattle.truesize.specs.Code.{EntriesFit}
+use Rattle.fmt.specs.declared.Format.{Format}
 use Rattle.listing.specs.declared.Listing as code
-use Rattle.wave.specs.declared.judgement.Judged.{Judged}
-use Rattle.wave.specs.declared.judgement.Judged.TheVariants as judged
+use Rattle.wave.specs.declared.judgement.Accepted.{Accepted}
+use Rattle.wave.specs.declared.judgement.Examined.{Examined}
+use Rattle.wave.specs.declared.judgement.Examined.TheVariants as examined
 use Rattle.listing.specs.Listings.{headers}
-use Rattle.listing.specs.Code.{rule, kept_of}
-use Rattle.wave.specs.Scans.{Scan, listing_of, scan}
+use Rattle.listing.specs.Code.{payload_of, rule, fact_in}
+use Rattle.wave.specs.Scans.{Scan, judged}
 
 -- ---- the judgement
 
--- what the inner judgement answers of a file: the scan's refusal, or its block
-unfoldable pub judged_as : Answer Scan → Judged
-judged_as (refused r) = judged.Refused r
-judged_as (given a) = judged.Block a.format.block
+-- the fmt payload of a listing lies in the file
+pub record FmtFits (l : code.Listing) (s : List ℕ) : Type 0 where
+  pub inside : l.fmt.place + l.fmt.size ≤ length s
 
--- how it ends
-unfoldable pub end_of : Judged → Verdict
-end_of (judged.Block n) = verdict.Accepted
-end_of (judged.Refused r) = verdict.Refused r
+unfoldable pub judged_as : code.Listing → Answer Format → Examined
+judged_as l (refused r) = examined.Refused r
+judged_as l (given f) =
+    examined.Accepted
+    (record { head = l.head; first = l.first; audio = l.audio; fact = l.fact; count = l.count; format = f })
 
--- What a caller knows that has listed and judged a file: its scan, that the listing was kept of it, and its block.
-pub record Knows (s : List ℕ) (k : code.Listing) (block : ℕ) : Type 0 where
-  pub scanned : Scan
-  pub is : scan s ≡ given scanned
-  pub kept : k ≡ kept_of (listing_of scanned)
-  pub block_is : block ≡ scanned.format.block
+unfoldable pub judge_of : code.Listing → List ℕ → Examined
+judge_of l s = judged_as l (judged (field l.fmt.size l.fmt.place s) l.audio.size)
+
+-- what the code knows of an accepted file besides its table
+unfoldable pub accepted_of : List ℕ → Scan → Accepted
+accepted_of s a =
+    record {
+      head = a.head;
+      first = header_of (place_of a.head.form s) s;
+      audio = payload_of (find DATA a.rows);
+      fact = fact_in a.rows;
+      count = length a.rows;
+      format = a.format;
+    }
+
+unfoldable pub examined_as : List ℕ → Answer Scan → Examined
+examined_as s (refused r) = examined.Refused r
+examined_as s (given a) = examined.Accepted (accepted_of s a)
 
 -- ---- rows into words
 
@@ -54,21 +72,19 @@ pub record Finishes (used : ℕ) (rest : Walked) (w : List ℕ) (v : Verdict) (w
 
 -- a walk by a rule came to the end of the file, and there are words for its rows, which end at a word
 pub record Rowed (r : Rule) (s : List ℕ) (stop : ℕ) (w : List ℕ) : Type 0 where
+  pub long : 12 ≤ length s
   pub end : (walk r s LIMIT 12).end ≡ verdict.Accepted
   pub stops : stop ≡ 1 + 4 * length (walk r s LIMIT 12).rows
-  pub room : stop ≤ length w
+  pub room : WORDS ≤ length w
 
 pub record WideRows (h : Head) (s : List ℕ) (stop : ℕ) (w : List ℕ) : Type 0 where
   pub fit : EntriesFit h s
   pub rows : Rowed (rule h s) s stop w
 
--- the listing's walk came to the end of the file with as many rows
-pub record Ended (h : Head) (s : List ℕ) (n : ℕ) : Type 0 where
+-- the scan's walk came to the end of the file with as many rows, and there are words for them
+pub record Fills (h : Head) (s : List ℕ) (n : ℕ) (w : List ℕ) : Type 0 where
+  pub long : 12 ≤ length s
   pub fit : EntriesFit h s
   pub end : (headers h s).end ≡ verdict.Accepted
   pub count : n ≡ length (headers h s).rows
-
--- and there are words for a table
-pub record Fills (h : Head) (s : List ℕ) (n : ℕ) (w : List ℕ) : Type 0 where
-  pub ended : Ended h s n
   pub room : WORDS ≤ length w

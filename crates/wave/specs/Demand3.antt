@@ -8,7 +8,7 @@ use Rattle.chunk.specs.declared.Refusal.TheVariants.{UnknownSize}
 use Rattle.chunk.specs.declared.Verdict.{Verdict}
 use Rattle.chunk.specs.declared.Verdict.TheVariants.{Accepted, Refused}
 use Rattle.chunk.specs.Fields.{ONES}
-use Rattle.wave.specs.Scans.{walk32}
+use Rattle.wave.specs.Scans.{Scan, walk32}
 use Rattle.wave.specs.Tables.{own_field}
 
 -- "the first chunk whose own size field is all ones": the rows ahead of it
@@ -31,14 +31,13 @@ SaysOwn s = (e : Entry) → Memᴰ e (walk32 s).rows → e.source ≡ Own
 unfoldable pub Sized : List ℕ → List Entry → Type 0
 Sized s rows = (e : Entry) → Memᴰ e rows → own_field s e ≡ ONES → ⊥
 
--- Of a file that is listed, with these rows, read with the plain 32-bit walk: "The 32-bit walk is also compared with every
--- accepted listing" (document 02), of an accepted file too, whose listing has the scan's table
-pub record FirstHalf (s : List ℕ) (rows : List Entry) : Type 0 where
+-- Of a file that the scan accepts, read with the plain 32-bit walk:
+pub record FirstHalf (s : List ℕ) (a : Scan) : Type 0 where
   -- "It shows exactly the chunks ahead of the first chunk whose own size field is all ones, each as the scan's table shows
   -- it", its source too, "and in that order, then stops there with refusal 7."
-  pub stops : (xs : List Entry) (e : Entry) (ys : List Entry) → rows ≡ xs ++ e ∷ ys → Sized s xs → own_field s e ≡ ONES
+  pub stops : (xs : List Entry) (e : Entry) (ys : List Entry) → a.rows ≡ xs ++ e ∷ ys → Sized s xs → own_field s e ≡ ONES
       → walk32 s ≡ record { rows = xs; end = Refused UnknownSize }
   -- "With no such chunk it shows the whole table and ends with no refusal."
-  pub whole : Sized s rows → walk32 s ≡ record { rows = rows; end = Accepted }
+  pub whole : Sized s a.rows → walk32 s ≡ record { rows = a.rows; end = Accepted }
   -- both at once, as one equation
-  pub walk : walk32 s ≡ record { rows = ahead s rows; end = stop s rows }
+  pub walk : walk32 s ≡ record { rows = ahead s a.rows; end = stop s a.rows }

@@ -1,5 +1,4 @@
 pub mod Scans
-pub mod Judgements
 pub mod Tables
 pub mod Grammar
 pub mod Demand3

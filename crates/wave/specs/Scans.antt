@@ -1,5 +1,5 @@
--- Document 01, "Refusal numbers" and "The 32-bit walk": the judgement (checks 11 and 12), the scan as a listing (checks 1 to
--- 10) and its judgement in turn, and the 32-bit walk. The judgement of words that are handed in is Judgements.antt.
+-- Document 01, "Refusal numbers" and "The 32-bit walk": the scan as a listing (checks 1 to 10) and a judgement (11 and
+-- 12), and the 32-bit walk.
 use Rattle.std.specs.Prelude.{ℕ, ◌%◌, List, [], eqb}
 use Rattle.le.specs.Number.{field}
 use Rattle.chunk.specs.declared.Entry.{Entry}
@@ -11,7 +11,7 @@ use Rattle.chunk.specs.Tables.{find, LIMIT}
 use Rattle.chunk.specs.Walks.{Walked, walk, own_size}
 use Rattle.form.specs.declared.Head.{Head}
 use Rattle.form.specs.Forms.{open_for32}
-use Rattle.listing.specs.Listings.{Listing, listing}
+use Rattle.listing.specs.Listings.{listing}
 use Rattle.fmt.specs.declared.Format.{Format}
 use Rattle.fmt.specs.Formats.{format_in}
 
@@ -31,10 +31,6 @@ unfoldable pub judged : List ℕ → ℕ → Answer Format
 unfolding and_then
 judged p size = and_then (format_in p) λ f. whole_blocks size f
 
--- of the rows of a file: "a judgement of fmt and block size over a listing and its file" (document 02)
-abbrev pub judged_in : List Entry → List ℕ → Answer Format
-judged_in rows s = judged (payload (find FMT rows) s) (find DATA rows).size
-
 -- ---- the scan
 
 -- an accepted file: its form, its table and its format
@@ -43,28 +39,17 @@ pub record Scan : Type 0 where
   pub rows : List Entry
   pub format : Format
 
--- the listing of an accepted file
-abbrev pub listing_of : Scan → Listing
-listing_of a = record { head = a.head; rows = a.rows }
-
--- "both in turn"
 unfoldable pub scan : List ℕ → Answer Scan
 unfolding and_then
 scan s =
     and_then (listing s) λ l.
-    and_then (judged_in l.rows s) λ f.
+    and_then (judged (payload (find FMT l.rows) s) (find DATA l.rows).size) λ f.
     given (record { head = l.head; rows = l.rows; format = f })
 
--- "A refused scan .. returns its number and an empty result": the rows of its table, and of a listing's
-unfoldable pub rows_by : {A : Type 0} → (A → List Entry) → Answer A → List Entry
-rows_by rows (refused r) = []
-rows_by rows (given a) = rows a
-
-abbrev pub rows_of : Answer Scan → List Entry
-rows_of x = rows_by (λ (a : Scan). a.rows) x
-
-abbrev pub listed_rows : Answer Listing → List Entry
-listed_rows x = rows_by (λ (l : Listing). l.rows) x
+-- "A refused scan .. returns its number and an empty result": the rows of its table
+unfoldable pub rows_of : Answer Scan → List Entry
+rows_of (refused r) = []
+rows_of (given a) = a.rows
 
 -- ---- the 32-bit walk
 

@@ -1,36 +1,66 @@
-// The judgement of a fresh listing: checks 11 and 12.
+// The judgement of a listing (checks 11 and 12), and the scan but for its table: the listing, then the judgement.
 ghost use Rattle.std.specs.Prelude.{◌≡◌};
-ghost use Rattle.listing.specs.Code.{Fresh};
 ghost use Rattle.wave.specs.Scans.{scan};
-ghost use Rattle.wave.specs.Code.{judged_as};
+ghost use Rattle.wave.specs.Code.{FmtFits, judge_of, examined_as};
 
-use chunk::Refusal;
-use fmt::Reading;
-use listing::Listing;
+use chunk::{Header, Refusal};
+use fmt::{Format, Reading};
+use form::Head;
+use listing::{Fact, Listed, Listing, Payload};
+
+// What the scan knows of a file that it accepts, besides its table.
+#[derive(Drop)]
+pub struct Accepted {
+    pub head: Head,
+    pub first: Header,
+    pub audio: Payload,
+    pub fact: Fact,
+    pub count: u64,
+    pub format: Format,
+}
 
 #[derive(Drop)]
-pub enum Judged {
-    // The file is good, and so long is a block of its audio.
-    Block(u64),
+pub enum Examined {
+    Accepted(Accepted),
     Refused(Refusal),
 }
 
-// For a caller that has just listed the file: nothing is compared, and 24 can't come.
-pub fn judge_fresh(file: &[u8], l: Listing) -> Judged
-    requires { Fresh file.now l }
-    ensures { result ≡ judged_as (scan file.now) }
+// Checks 11 and 12.
+fn judge(file: &[u8], l: Listing) -> Examined
+    requires { FmtFits l file.now }
+    ensures { result ≡ judge_of l file.now }
 {
     let fmt = l.fmt;
     let audio = l.audio;
     let a = fmt.place as usize;
     let e = (fmt.place + fmt.size) as usize;
     match fmt::read(&file[a..e]) {
-        Reading::Refused(r) => Judged::Refused(r),
+        Reading::Refused(r) => Examined::Refused(r),
         Reading::Record(format) => {
             if audio.size % format.block != 0 {
-                return Judged::Refused(Refusal::RaggedAudio);
+                return Examined::Refused(Refusal::RaggedAudio);
             }
-            Judged::Block(format.block)
+            let head = l.head;
+            let first = l.first;
+            let fact = l.fact;
+            Examined::Accepted(Accepted {
+                head,
+                first,
+                audio,
+                fact,
+                count: l.count,
+                format,
+            })
         }
+    }
+}
+
+// The whole scan but for the table: what is known of an accepted file, or the refusal.
+pub fn examine(file: &[u8]) -> Examined
+    ensures { result ≡ examined_as file.now (scan file.now) }
+{
+    match listing::list(file) {
+        Listed::Refused(r) => Examined::Refused(r),
+        Listed::Listing(l) => judge(file, l),
     }
 }

@@ -1,19 +1,15 @@
-// The whole file: the listing, the judgement of a listing, and the 32-bit walk.
+// The whole file: the scan and the 32-bit walk.
 //
-// The listing and the walk come twice: once by value, and once into words that the caller lends, laid out as chunk::Table
-// has them. Nothing is asked of the bytes or of the words.
+// Each comes twice: once by value, and once into words that the caller lends, laid out as chunk::Table has them. Nothing
+// is asked of the bytes or of the words.
 pub mod judgement;
-pub mod rows;
-mod walk;
+mod rows;
 
 ghost use Rattle.std.specs.Prelude.{◌≡◌};
-ghost use Rattle.chunk.specs.Refusals.{verdict_of};
-ghost use Rattle.wave.specs.Judgements.{judgement};
-ghost use Rattle.wave.specs.Words.{ListDone, WalkDone, list_table, walk_table};
+ghost use Rattle.wave.specs.Words.{ScanDone, WalkDone, scan_table, walk_table};
 
 use chunk::{Refusal, Table, Verdict};
-use judgement::Judged;
-use listing::Listed;
+use judgement::Examined;
 
 // A table, and how the operation that made it ended.
 #[derive(Drop)]
@@ -22,59 +18,41 @@ pub struct Tabled {
     pub verdict: Verdict,
 }
 
-// Lists a file into the words of a table: checks 1 to 10, and none of fmt. Words past the last chunk stay as they were, and
-// all of them where there are fewer than a table has: that is 15, ahead of everything else.
-pub fn list_into(file: &[u8], words: &mut [u64]) -> Verdict
-    ensures { ListDone file.now words.old result words.new }
+// Scans a file into the words of a table. Words past the last chunk stay as they were, and all of them where there are
+// fewer than a table has: that is 15, ahead of everything else.
+pub fn scan_into(file: &[u8], words: &mut [u64]) -> Verdict
+    ensures { ScanDone file.now words.old result words.new }
 {
     if words.len() < Table::WORDS {
         return Verdict::Refused(Refusal::ShortOutput);
     }
-    match listing::list(file) {
-        Listed::Refused(r) => {
+    match judgement::examine(file) {
+        Examined::Refused(r) => {
             words[0] = 0;
             Verdict::Refused(r)
         }
-        Listed::Listing(l) => {
-            rows::fill(file, l.head, l.count, words);
+        Examined::Accepted(a) => {
+            let head = a.head;
+            rows::fill(file, head, a.count, words);
             Verdict::Accepted
         }
     }
 }
 
-// Lists a file.
-pub fn list(file: &[u8]) -> Tabled
-    ensures { result ≡ list_table file.now }
+// Scans a file.
+pub fn scan(file: &[u8]) -> Tabled
+    ensures { result ≡ scan_table file.now }
 {
     let empty = Table::empty();
     let mut words = empty.words;
-    let verdict = list_into(file, &mut words);
+    let verdict = scan_into(file, &mut words);
     Tabled {
         table: Table { words },
         verdict,
     }
 }
 
-// Judges a listing, in words, of a file: 24 where it isn't a fresh one, and then checks 11 and 12. Whoever has just listed
-// the file needn't have it listed again: judgement::judge_fresh.
-pub fn judge(file: &[u8], table: &[u64]) -> Verdict
-    ensures { result ≡ verdict_of (judgement file.now table.now) }
-{
-    match listing::list(file) {
-        Listed::Refused(_) => Verdict::Refused(Refusal::StaleListing),
-        Listed::Listing(l) => {
-            if !rows::are(file, l.head, l.count, table) {
-                return Verdict::Refused(Refusal::StaleListing);
-            }
-            match judgement::judge_fresh(file, l) {
-                Judged::Refused(r) => Verdict::Refused(r),
-                Judged::Block(_) => Verdict::Accepted,
-            }
-        }
-    }
-}
-
-// Walks a file as a 32-bit reader would, into the words of a table; the words as for the listing.
+// Walks a file as a 32-bit reader would, into the words of a table; the words as for the scan.
 pub fn walk32_into(file: &[u8], words: &mut [u64]) -> Verdict
     ensures { WalkDone file.now words.old result words.new }
 {
@@ -86,7 +64,7 @@ pub fn walk32_into(file: &[u8], words: &mut [u64]) -> Verdict
             words[0] = 0;
             Verdict::Refused(r)
         }
-        Verdict::Accepted => walk::list32(file, words),
+        Verdict::Accepted => rows::list32(file, words),
     }
 }
 

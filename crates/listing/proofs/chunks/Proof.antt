@@ -23,18 +23,19 @@ fact-of-requires c κs = search rules
 returns-2 : tie.Need-returns-2
 unfolding chunks_as
 returns-2 c =
-    let a = c.before.before.before.before.before.before.args in
+    let a = c.before.before.before.before.before.before.before.args in
     ap
     (λ (x : Fact). listed.Listing
     (record {
       head = a.head;
+      first = a.n.first;
       fmt = a.n.tally.fmt;
       audio = a.n.tally.audio;
       fact = x;
       count = a.n.count;
     }))
     c.fact_of.ensures
-    ∙ sym (pick_true _ _ _ (sym c.before.before.before.before.good2.ensures ∙ not-false _ c.before.before.before.if1.false))
+    ∙ sym (pick_true _ _ _ (sym c.before.before.before.before.before.good2.ensures ∙ not-false _ c.before.before.before.before.if1.false))
 
 pub chunks-spec : {M : Type 1} → statement M
 chunks-spec = tie.close (tie.spec good-requires returns fact-of-requires returns-2)

@@ -29,9 +29,6 @@ sign-requires c κs = search rules
 slice-aggregate-act : tie.Need-slice-aggregate-act invariant-loop decreases-loop
 slice-aggregate-act c = search rules
 
-slice-aggregate-act-2 : tie.Need-slice-aggregate-act-2 invariant-loop decreases-loop
-slice-aggregate-act-2 c = search rules
-
 act-requires : tie.Need-act-requires invariant-loop decreases-loop
 act-requires c κs = search rules
 
@@ -67,7 +64,6 @@ run_spec =
     shared-slice-read-b
     sign-requires
     slice-aggregate-act
-    slice-aggregate-act-2
     act-requires
     slice-aggregate-after
     slice-aggregate-after-2

@@ -22,13 +22,13 @@ store-fact-requires : tie.Need-store-fact-requires
 store-fact-requires c κs =
     record {
       inside = λ p e.
-          let h = fact-within _ _ _ c.before.before.before.before.before.before.before.before.before.requires.knows p e in
+          let h = fact-within _ _ c.before.before.before.before.before.before.before.before.before.requires.knows p e in
           let l = ap length c.before.before.before.store-ds64.ensures ∙ patched-length _ _ in
           omega (arith, h, l);
     }
 
 sub-store-fields : tie.Need-overflow-sub-store-fields
-sub-store-fields c = let d = data-within _ _ _ c.before.before.before.before.before.before.before.before.before.before.before.before.before.before.requires.knows in omega (arith, d.0)
+sub-store-fields c = let d = data-within _ _ c.before.before.before.before.before.before.before.before.before.before.before.before.before.before.requires.knows in omega (arith, d.0)
 
 name-of-requires : tie.Need-name-of-requires
 name-of-requires c κs = search rules
@@ -36,7 +36,7 @@ name-of-requires c κs = search rules
 store-fields-requires : tie.Need-store-fields-requires
 store-fields-requires c κs =
     let p = c.before.before.before.before.before.before.before.before.before.before.before.before.before.before.before.requires in
-    let d = data-within _ _ _ p.knows in
+    let d = data-within _ _ p.knows in
     let l = ap length c.before.before.before.before.before.before.before.before.before.store-ds64.ensures ∙ patched-length _ _ in
     let m = ap length c.before.before.before.before.before.store-fact.ensures ∙ patched-length _ _ in
     (omega (arith, l, m, p.long), omega (arith, d.0, d.1, l, m))
@@ -46,7 +46,7 @@ same_length c = search rules
 
 returns : tie.Need-returns
 returns c =
-    all_made _ _ _ _ _ _ _ _ _ c.before.before.before.before.before.before.before.before.before.before.before.before.store-ds64.ensures c.before.before.before.before.before.before.before.before.before.before.before.before.before.before.before.third.ensures c.before.before.before.before.before.before.before.before.store-fact.ensures
+    all_made _ _ _ _ _ _ _ _ c.before.before.before.before.before.before.before.before.before.before.before.before.store-ds64.ensures c.before.before.before.before.before.before.before.before.before.before.before.before.before.before.before.third.ensures c.before.before.before.before.before.before.before.before.store-fact.ensures
     c.before.before.store-fields.ensures c.before.before.before.name_of.ensures
 
 pub rewrite-spec : {M : Type 1} → statement M

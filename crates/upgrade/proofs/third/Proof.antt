@@ -1,6 +1,6 @@
 -- `upgrade::third` meets its contract: in each arm the target and fact are known.
 -- Assumes nothing.
-use mathlib.Core.Path.{sym, ◌∙◌, ap}
+use mathlib.Core.Path.{refl, sym, ◌∙◌, ap}
 use native.Mathlib.Omega.{arith}
 use borrow.Author.Rules.{rules}
 use Rattle.listing.specs.declared.Fact.{Fact}
@@ -20,32 +20,31 @@ enum-known-fact : tie.Need-enum-known-fact
 enum-known-fact c = search rules
 
 read4-requires : tie.Need-read4-requires
-read4-requires c κs = fact-within _ _ _ c.before.before.before.before.before.before.before.requires _ c.before.fact.given.1
+read4-requires c κs = fact-within _ _ c.before.before.before.before.before.before.before.requires _ c.before.fact.given.1
 
 enum-told-3 : tie.Need-enum-told-3
 enum-told-3 c = search rules
 
 div-result : tie.Need-nonzero-div-result
-div-result c = let k = known-block _ _ _ c.before.before.before.before.before.before.before.requires in omega (arith, k)
+div-result c = let k = known-block _ _ c.before.before.before.before.before.before.before.before.requires in omega (arith, k)
 
 returns : tie.Need-returns
 unfolding third_of
-returns c = let a = c.before.before.before.before.args in sym (ap (λ (t : Target). third_of t a.l a.block a.file.now) c.enum_told.given.1)
+returns c = sym (ap (λ (t : Target). third_of t c.before.before.before.before.args.a c.before.before.before.before.args.file.now) c.enum_told.given.1)
 
 returns-2 : tie.Need-returns-2
 unfolding third_of third_as
 returns-2 c =
-    let a = c.before.before.before.before.before.before.before.before.args in
     c.read4.ensures.is
-    ∙ sym (ap (λ (t : Target). third_of t a.l a.block a.file.now) c.before.before.before.before.enum-told2.given.1
-    ∙ ap (λ (m : Fact). third_as m a.l.audio.size a.block a.file.now) c.before.before.fact.given.1)
+    ∙ sym (ap (λ (t : Target). third_of t c.before.before.before.before.before.before.before.before.args.a c.before.before.before.before.before.before.before.before.args.file.now) c.before.before.before.before.enum-told2.given.1
+    ∙ ap (λ (m : Fact). third_as m c.before.before.before.before.before.before.before.before.args.a c.before.before.before.before.before.before.before.before.args.file.now) c.before.before.fact.given.1)
 
 returns-3 : tie.Need-returns-3
 unfolding third_of third_as
 returns-3 c =
-    let a = c.before.before.before.before.before.before.before.args in
-    sym (ap (λ (t : Target). third_of t a.l a.block a.file.now) c.before.before.before.enum-told2.given.1
-    ∙ ap (λ (m : Fact). third_as m a.l.audio.size a.block a.file.now) c.before.enum-told3.given.1)
+    refl
+    ∙ sym (ap (λ (t : Target). third_of t c.before.before.before.before.before.before.before.before.args.a c.before.before.before.before.before.before.before.before.args.file.now) c.before.before.before.before.enum-told2.given.1
+    ∙ ap (λ (m : Fact). third_as m c.before.before.before.before.before.before.before.before.args.a c.before.before.before.before.before.before.before.before.args.file.now) c.before.before.enum-told3.given.1)
 
 pub third-spec : {M : Type 1} → statement M
 third-spec =

@@ -1,8 +1,7 @@
 -- `wave::walk32` meets its contract: the walk into the words of the table of no chunks.
 -- Assumes nothing.
 use borrow.Author.Rules.{rules}
-use Rattle.wave.specs.Words.{walk_table}
-use Rattle.wave.proofs.Ends.{table-value}
+use Rattle.wave.proofs.Ends.{walk-value}
 use Rattle.wave.proofs.walk32.Statement.{statement}
 use Rattle.wave.proofs.walk32.Tie as tie
 
@@ -16,8 +15,7 @@ walk32-into-requires : tie.Need-walk32-into-requires
 walk32-into-requires c κs = search rules
 
 returns : tie.Need-returns
-unfolding walk_table
-returns c = table-value _ _ _ _ _ c.before.before.before.before.empty.ensures c.before.walk32-into.ensures
+returns c = walk-value _ _ _ _ c.before.before.before.before.empty.ensures c.before.walk32-into.ensures
 
 pub walk32-spec : {M : Type 1} → statement M
 walk32-spec =

@@ -109,20 +109,7 @@ fn say(message: &str) {
 fn refused(path: &Path, refusal: Refusal) {
     let style = Style::stderr();
     let (path, words) = (show::path(path), style.bad(&refusal.to_string()));
-    let mut message = format!("{path}: {words}\n  {}", refusal.advice());
-    if let Some(more) = what_list_shows(refusal) {
-        message += &format!("\n  {more}");
-    }
-    say(&message);
-}
-
-/// The refusals about which the listing tells more.
-fn what_list_shows(refusal: Refusal) -> Option<&'static str> {
-    match refusal {
-        Refusal::BadFmt | Refusal::RaggedAudio => Some("`symphedra list FILE` shows its table"),
-        Refusal::StaleListing => Some("`symphedra list FILE` says why it has none"),
-        _ => None,
-    }
+    say(&format!("{path}: {words}\n  {}", refusal.advice()));
 }
 
 fn failed(path: &Path, trouble: &Trouble) -> Outcome {

@@ -1,4 +1,4 @@
--- `wave::rows::fill` meets its contract: both ways store the rows of the listing's walk, and then their number.
+-- `wave::rows::fill` meets its contract: both ways store the rows of the scan's walk, and then their number.
 -- Assumes nothing.
 use mathlib.Core.Path.{◌≡◌, sym, ◌∙◌, ap}
 use mathlib.Core.Logic.{⊎_elim}
@@ -7,7 +7,7 @@ use lib.ListN.{length, length-set}
 use borrow.Author.Rules.{rules}
 use Rattle.listing.specs.Listings.{headers}
 use Rattle.wave.specs.Code.{rows_from}
-use Rattle.wave.proofs.Stored.{rows-length, ended-few, ended-wide, ended-own, fills-room, fills-rows, fills-tabled}
+use Rattle.wave.proofs.Stored.{rows-length, fills-few, fills-wide, fills-own, fills-rows, fills-tabled}
 use Rattle.wave.proofs.rows.fill.Statement.{statement}
 use Rattle.wave.proofs.rows.fill.Tie as tie
 
@@ -21,21 +21,19 @@ same : (c : tie.Joined1) → length c.if1.words ≡ length c.before.before.befor
 same c = ap length (stored c) ∙ rows-length _ _ _
 
 mul-stop : tie.Need-overflow-mul-stop
-mul-stop c = omega (arith, ended-few _ _ _ c.before.before.requires.ended)
+mul-stop c = omega (arith, fills-few _ _ _ _ c.before.before.requires)
 
 add-stop : tie.Need-overflow-add-stop
-add-stop c = omega (arith, ended-few _ _ _ c.before.before.requires.ended)
+add-stop c = omega (arith, fills-few _ _ _ _ c.before.before.requires)
 
 is-wide-requires : tie.Need-is-wide-requires
 is-wide-requires c κs = search rules
 
 fill-wide-requires : tie.Need-fill-wide-requires
-fill-wide-requires c κs = let p = c.before.before.before.before.before.requires in ended-wide _ _ _ p.ended _ (fills-room _ _ _ _ p)
+fill-wide-requires c κs = fills-wide _ _ _ _ c.before.before.before.before.before.requires
 
 fill-own-requires : tie.Need-fill-own-requires
-fill-own-requires c κs =
-    let p = c.before.before.before.before.before.requires in
-    ended-own _ _ _ p.ended _ (fills-room _ _ _ _ p) (sym c.before.before.is_IsWide.ensures ∙ c.before.if1.false)
+fill-own-requires c κs = fills-own _ _ _ _ c.before.before.before.before.before.requires (sym c.before.before.is_IsWide.ensures ∙ c.before.if1.false)
 
 slice-write-words : tie.Need-slice-write-words
 slice-write-words c = omega (arith, c.before.before.before.before.requires.room, same c)

@@ -7,7 +7,7 @@ use borrow.Author.Rules.{rules}
 use Rattle.chunk.specs.declared.TrueSize.{TrueSize}
 use Rattle.chunk.specs.Walks.{own_size}
 use Rattle.chunk.proofs.Laid.{row-size}
-use Rattle.wave.proofs.Stored.{Turn, Filling, filling-start, filling-turn, filling-holds, filling-next, filling-end, own-size}
+use Rattle.wave.proofs.Stored.{Filling, Ahead, filling-start, filling-next, filling-end, own-size}
 use Rattle.wave.proofs.rows.fill_own.Statement.{statement}
 use Rattle.wave.proofs.rows.fill_own.Tie as tie
 
@@ -19,8 +19,8 @@ decreases-loop file stop words₀ place₀ row₀ words place row = stop - row
 
 -- the row of a turn
 ahead : (c : tie.In-loop invariant-loop decreases-loop)
-    → Turn own_size c.before.before.before.before.args.file.now c.before.before.before.before.args.stop c.before.loop.place c.before.loop.row c.before.loop.invariant.left
-ahead c = filling-turn c.before.loop.invariant c.loop-test.true
+    → Ahead own_size c.before.before.before.before.args.file.now c.before.before.before.before.args.words.now c.before.loop.words c.before.before.before.before.args.stop c.before.loop.place c.before.loop.row
+ahead c = filling-next _ _ _ _ _ _ _ c.before.loop.invariant c.loop-test.true
 
 sized : (c : tie.After-own invariant-loop decreases-loop) → c.own.result ≡ row-size (ahead c.before.before).entry
 sized c = c.own.ensures ∙ own-size _ _ _ _ c.before.header.ensures (ahead c.before.before).sized
@@ -29,7 +29,7 @@ loop-holds : tie.Need-loop-init invariant-loop decreases-loop
 loop-holds c = filling-start _ _ _ _ c.before.before.requires
 
 header-requires : tie.Need-header-requires invariant-loop decreases-loop
-header-requires c κs = (c.before.loop.invariant.again.start, (ahead c).whole)
+header-requires c κs = (c.before.loop.invariant.start, (ahead c).whole)
 
 own-requires : tie.Need-own-requires invariant-loop decreases-loop
 own-requires c κs = search rules
@@ -38,20 +38,20 @@ entry-requires : tie.Need-entry-requires invariant-loop decreases-loop
 entry-requires c κs = search rules
 
 put-row-requires : tie.Need-put-row-requires invariant-loop decreases-loop
-put-row-requires c κs = filling-holds c.before.before.before.before.before.loop.invariant c.before.before.before.before.loop-test.true
+put-row-requires c κs = (ahead c.before.before.before.before).holds
 
 past-requires : tie.Need-past-requires invariant-loop decreases-loop
-past-requires c κs = (c.before.before.before.before.before.before.before.before.loop.invariant.again.even, omega (arith, ap (λ (t : TrueSize). t.bytes) (sized c.before.before.before.before.before), (ahead c.before.before.before.before.before.before.before).ends))
+past-requires c κs = (c.before.before.before.before.before.before.before.before.loop.invariant.even, omega (arith, ap (λ (t : TrueSize). t.bytes) (sized c.before.before.before.before.before), (ahead c.before.before.before.before.before.before.before).ends))
 
 add_row : tie.Need-overflow-add-row invariant-loop decreases-loop
-add_row c = omega (arith, filling-holds c.before.before.before.before.before.before.before.before.before.loop.invariant c.before.before.before.before.before.before.before.before.loop-test.true)
+add_row c = omega (arith, (ahead c.before.before.before.before.before.before.before.before).holds)
 
 loop-less : tie.Need-loop-smaller invariant-loop decreases-loop
 loop-less c = omega (arith, c.before.before.before.before.before.before.before.before.loop-test.true)
 
 loop-again : tie.Need-loop-preserved invariant-loop decreases-loop
 loop-again c =
-    filling-next _ _ _ _ _ _ _ c.before.before.before.before.before.before.before.before.before.loop.invariant (ahead c.before.before.before.before.before.before.before.before) _ _ _ _ _ c.before.before.before.before.before.before.before.header.ensures.name (sized c.before.before.before.before.before.before) c.before.before.before.before.entry.ensures c.before.before.before.put-row.ensures
+    (ahead c.before.before.before.before.before.before.before.before).after _ _ _ _ _ c.before.before.before.before.before.before.before.header.ensures.name (sized c.before.before.before.before.before.before) c.before.before.before.before.entry.ensures c.before.before.before.put-row.ensures
     c.past.ensures
 
 same_length : tie.Need-same-length invariant-loop decreases-loop

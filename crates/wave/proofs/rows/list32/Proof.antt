@@ -1,10 +1,10 @@
--- `wave::walk::list32` meets its contract: the walk from byte 12, or none where no whole header stands there.
+-- `wave::rows::list32` meets its contract: the walk from byte 12, or none where no whole header stands there.
 -- Assumes nothing.
 use native.Mathlib.Omega.{arith}
 use borrow.Author.Rules.{rules}
 use Rattle.wave.proofs.Stored.{bare-end, bare-cut}
-use Rattle.wave.proofs.walk.list32.Statement.{statement}
-use Rattle.wave.proofs.walk.list32.Tie as tie
+use Rattle.wave.proofs.rows.list32.Statement.{statement}
+use Rattle.wave.proofs.rows.list32.Tie as tie
 
 walk32-requires : tie.Need-walk32-requires
 walk32-requires c κs = search rules

@@ -1,12 +1,12 @@
--- `wave::walk::finish` meets its contract: in each arm the step is known, so what it leaves of the walk is one row or none.
+-- `wave::rows::finish` meets its contract: in each arm the step is known, so what it leaves of the walk is one row or none.
 -- Assumes nothing.
 use mathlib.Core.Path.{ap}
 use borrow.Author.Rules.{rules}
 use Rattle.chunk.specs.declared.Step.{Step}
 use Rattle.chunk.specs.Code.{walk_after, full}
 use Rattle.wave.proofs.Stored.{finish-row, finish-none}
-use Rattle.wave.proofs.walk.finish.Statement.{statement}
-use Rattle.wave.proofs.walk.finish.Tie as tie
+use Rattle.wave.proofs.rows.finish.Statement.{statement}
+use Rattle.wave.proofs.rows.finish.Tie as tie
 
 mul-row : tie.Need-overflow-mul-row
 mul-row c = search rules

@@ -1,4 +1,4 @@
--- `wave::walk::walk32` meets its contract: the loop's invariant is a walk in the middle.
+-- `wave::rows::walk32` meets its contract: the loop's invariant is a walk in the middle.
 -- Assumes nothing.
 use mathlib.Core.Path.{◌≡◌, refl, sym, ◌∙◌}
 use mathlib.Core.Logic.{inl, inr}
@@ -16,8 +16,8 @@ use Rattle.chunk.specs.Walks.{Walked}
 use Rattle.chunk.specs.Code.{walk_after, full}
 use Rattle.chunk.specs.contracts.Step.{the_type}
 use Rattle.wave.proofs.Stored.{Storing, storing-start, storing-next, storing-stop, storing-full, finish-same}
-use Rattle.wave.proofs.walk.walk32.Statement.{statement}
-use Rattle.wave.proofs.walk.walk32.Tie as tie
+use Rattle.wave.proofs.rows.walk32.Statement.{statement}
+use Rattle.wave.proofs.rows.walk32.Tie as tie
 
 -- a step that is no chunk ends the walk, whatever would follow
 no_chunk : (x : Step) → OneOf (1 ∷ 2 ∷ 3 ∷ []) (tag_of the_type x) → (rest : ℕ → Walked) → walk_after x rest ≡ walk_after x full
