@@ -1,6 +1,8 @@
 // Little-endian numbers of 2, 4 and 8 bytes, read and stored at a place of a run of bytes.
 //
 // What a number is stands in specs/Number.antt, once for every width.
+#![tactic(auto)]
+
 ghost use Rattle.std.specs.Prelude.{◌≡◌, ◌+◌, ◌≤◌, length};
 ghost use Rattle.le.specs.Number.{Reads, stored};
 
