@@ -3,6 +3,8 @@
 // A payload has at least 602 bytes: Description 256, Originator 32, Reference 32, date 10, time 8, TimeReference 8,
 // Version 2, then 254 bytes, then the coding history to the end. The texts stay in the payload: the record says how long
 // each is.
+#![tactic(auto)]
+
 pub mod slices;
 
 ghost use Rattle.std.specs.Prelude.{◌≡◌, ◌+◌, ◌≤◌, length, replicate};
@@ -17,7 +19,7 @@ use bext_parts::Part;
 use chunk::{Refusal, Written};
 
 // A record by numbers.
-#[derive(Drop)]
+#[derive(Clone, Copy)]
 pub struct Bext {
     pub description_len: u64,
     pub originator_len: u64,
@@ -51,7 +53,7 @@ impl Bext {
 }
 
 // What a reader answers.
-#[derive(Drop)]
+#[derive(Clone, Copy)]
 pub enum Reading {
     Record(Bext),
     // 13: a rule of bext is broken.
@@ -59,7 +61,7 @@ pub enum Reading {
 }
 
 // The lengths of the three texts.
-#[derive(Drop)]
+#[derive(Clone, Copy)]
 struct Texts {
     description_len: u64,
     originator_len: u64,
@@ -67,7 +69,7 @@ struct Texts {
 }
 
 // What stands ahead of the date.
-#[derive(Drop)]
+#[derive(Clone, Copy)]
 enum HasTexts {
     Good(Texts),
     // One of them breaks the rule of a text.
@@ -97,14 +99,14 @@ fn read_texts(payload: &[u8]) -> HasTexts
 }
 
 // Whether date and time are set.
-#[derive(Drop)]
+#[derive(Clone, Copy)]
 struct Stamps {
     date_set: bool,
     time_set: bool,
 }
 
 // What stands between the texts and the time reference.
-#[derive(Drop)]
+#[derive(Clone, Copy)]
 enum HasStamps {
     Good(Stamps),
     // One of them is neither set nor all zero.

@@ -2,12 +2,14 @@
 //
 // A reader asks what a part holds, a writer whether a part that it is given could have been read. Nothing is asked of the
 // bytes.
+#![tactic(auto)]
+
 ghost use Rattle.std.specs.Prelude.{◌≡◌, ◌||◌, ◌+◌, ◌≤◌, ◌<◌, length, drop, ltb};
 ghost use Rattle.bext_parts.specs.Parts.{all_zero, text_of, text_good, is_digit, two_digits, is_separator, date_good, time_good, set_of, rest_good, text_given, date_given, time_given, rest_of, rest_given};
 ghost use Rattle.bext_parts.specs.Code.{part_of, run_end, NearEnd};
 
 // What a part of a payload holds.
-#[derive(Drop)]
+#[derive(Clone, Copy)]
 pub enum Part {
     // So many bytes.
     Length(u64),

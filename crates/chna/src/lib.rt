@@ -2,6 +2,8 @@
 //
 // A payload is the track count 2 and the UID count 2, then entries of 40 bytes (chna_entry). The record's entries stay in the
 // bytes that were lent; entry takes out one.
+#![tactic(auto)]
+
 ghost use Rattle.std.specs.Prelude.{◌≡◌, ◌/◌, ◌%◌, ◌^◌, ◌<◌};
 ghost use Rattle.std.specs.Int.Bits.{bit_or};
 ghost use Rattle.chunk.specs.Refusals.{given};
@@ -13,7 +15,7 @@ use chna_entry::Entry;
 use chunk::{Refusal, Written};
 
 // A record: its two counts and how many entries it has.
-#[derive(Drop)]
+#[derive(Clone, Copy)]
 pub struct Chna {
     // The track count: how many different tracks the used entries name.
     pub tracks: u64,
@@ -31,7 +33,7 @@ impl Chna {
 }
 
 // What a reader answers.
-#[derive(Drop)]
+#[derive(Clone, Copy)]
 pub enum Reading {
     Record(Chna),
     // 14: a rule of chna is broken.

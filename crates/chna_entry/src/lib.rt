@@ -1,6 +1,8 @@
 // An entry of chna: its identifiers, each by the pattern that 002 prints, and the rules of a used one (002 8.2).
 //
 // An entry is 40 bytes: track index 2, UID 12, track reference 14, pack reference 11, one pad. An unused one is 40 zeros.
+#![tactic(auto)]
+
 ghost use Rattle.std.specs.Prelude.{◌≡◌, ◌||◌, ◌∷◌, ◌+◌, ◌≤◌, length};
 ghost use Rattle.le.specs.Number.{field};
 ghost use Rattle.chna_entry.specs.Ids.{is_hex, fits, UNUSED, UID, TRACK, CHANNEL, PACK, NOPACK};
@@ -11,7 +13,7 @@ ghost use Rattle.chna_entry.specs.Code.{hexes};
 pub const SIZE: usize = 40;
 
 // An entry by value. One that is not used has zeros for the rest.
-#[derive(Drop)]
+#[derive(Clone, Copy)]
 pub struct Entry {
     pub used: bool,
     // The track index.

@@ -1,6 +1,8 @@
 // Chunks: the refusals, a chunk's entry, the table of them, and a step of the walk from header to header.
 //
 // A chunk is a 4-byte name, a 32-bit size field, its payload, and one pad byte where the payload is odd.
+#![tactic(auto)]
+
 pub mod steps;
 
 ghost use Rattle.std.specs.Prelude.{◌≡◌, ◌+◌, ◌^◌, ◌≤◌, ◌<◌, [], length, get_or};
@@ -11,7 +13,7 @@ ghost use Rattle.chunk.specs.Tables.{table_of, row_words, row_in};
 ghost use Rattle.chunk.specs.Walks.{field_size};
 
 // Why a file or a record is refused: document 01's table, in its order.
-#[derive(Drop)]
+#[derive(Clone, Copy)]
 pub enum Refusal {
     // 1: the file has fewer than 12 bytes.
     TooShort,
@@ -83,7 +85,7 @@ impl Refusal {
 }
 
 // How an operation ends.
-#[derive(Drop)]
+#[derive(Clone, Copy)]
 pub enum Verdict {
     Accepted,
     Refused(Refusal),
@@ -102,7 +104,7 @@ impl Verdict {
 }
 
 // Where a chunk's true size came from.
-#[derive(Drop)]
+#[derive(Clone, Copy)]
 pub enum Source {
     // The chunk's own size field.
     Own,
@@ -126,7 +128,7 @@ impl Source {
 }
 
 // A chunk's true size, and where it came from.
-#[derive(Drop)]
+#[derive(Clone, Copy)]
 pub struct TrueSize {
     pub bytes: u64,
     pub source: Source,
@@ -145,7 +147,7 @@ impl TrueSize {
 }
 
 // A chunk of a file: its 4-byte name as a number, where its payload starts, its true size, and where that came from.
-#[derive(Drop)]
+#[derive(Clone, Copy)]
 pub struct Entry {
     pub name: u64,
     pub place: u64,
@@ -248,14 +250,14 @@ impl Name {
 }
 
 // A chunk's header: its name and its own size field.
-#[derive(Drop)]
+#[derive(Clone, Copy)]
 pub struct Header {
     pub name: u64,
     pub field: u64,
 }
 
 // What a step of the walk finds at a header.
-#[derive(Drop)]
+#[derive(Clone, Copy)]
 pub enum Step {
     // A chunk, and the place of the next, whose header is whole.
     Chunk(Entry, u64),
@@ -268,7 +270,7 @@ pub enum Step {
 }
 
 // What a writer answers.
-#[derive(Drop)]
+#[derive(Clone, Copy)]
 pub enum Written {
     // How many bytes it wrote.
     Bytes(u64),

@@ -2,6 +2,8 @@
 // is none.
 //
 // An empty payload of bext or chna is left out.
+#![tactic(auto)]
+
 ghost use Rattle.std.specs.Prelude.{◌≡◌, ◌||◌, ◌^◌, ◌<◌, length, eqb, leb};
 ghost use Rattle.form.specs.Forms.{is_wide};
 ghost use Rattle.bext.specs.Records.{bext_in};
@@ -15,7 +17,7 @@ use fmt::Format;
 use form::Form;
 
 // What the judge answers.
-#[derive(Drop)]
+#[derive(Clone, Copy)]
 pub enum Judged {
     // How many bytes the file has.
     Size(u64),

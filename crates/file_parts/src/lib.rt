@@ -1,6 +1,8 @@
 // The parts of a file that is written: a chunk, and all that stands ahead of fmt.
 //
 // Each store asks for room at its place, and answers the place that follows what it stored.
+#![tactic(auto)]
+
 ghost use Rattle.std.specs.Prelude.{◌≡◌, ◌++◌, ◌+◌, ◌%◌, ◌≤◌, length};
 ghost use Rattle.le.specs.Number.{bytes};
 ghost use Rattle.chunk.specs.Names.{WAVE};

@@ -2,6 +2,8 @@
 //
 // A payload has 16, 18 or 40 bytes: tag 2, channels 2, rate 4, bytes a second 4, block 2, bits 2; then an extra length 2;
 // then valid bits 2, channel mask 4, subformat 16.
+#![tactic(auto)]
+
 ghost use Rattle.std.specs.Prelude.{◌≡◌, ◌≤◌, ◌<◌, length};
 ghost use Rattle.std.proofs.lemmas.List.Edits.{sets};
 ghost use Rattle.chunk.specs.Refusals.{given};
@@ -13,7 +15,7 @@ ghost use Rattle.fmt.specs.Writing.{head_bytes, extra_bytes, format_bytes, field
 use chunk::{Refusal, Written};
 
 // A format record, which keeps the length of its payload.
-#[derive(Drop)]
+#[derive(Clone, Copy)]
 pub struct Format {
     // The payload's length: 16, 18 or 40.
     pub size: u64,
@@ -32,7 +34,7 @@ pub struct Format {
 }
 
 // What a reader answers.
-#[derive(Drop)]
+#[derive(Clone, Copy)]
 pub enum Reading {
     Record(Format),
     // 11: a rule of fmt is broken.

@@ -1,4 +1,6 @@
 // The forms RIFF, RF64 and BW64, the ds64 chunk, and checks 1 to 5: the form, its ds64, and the form size.
+#![tactic(auto)]
+
 ghost use Rattle.std.specs.Prelude.{◌≡◌, true, ◌≤◌, length};
 ghost use Rattle.chunk.specs.Refusals.{verdict_of};
 ghost use Rattle.form.specs.declared.Form.TheVariants.{Riff};
@@ -8,7 +10,7 @@ ghost use Rattle.form.specs.Code.{parsed_as, opened_as, head_then};
 use chunk::{Name, Refusal, Table, Verdict};
 
 // The form that bytes 0 to 3 of a file name.
-#[derive(Drop)]
+#[derive(Clone, Copy)]
 pub enum Form {
     Riff,
     Rf64,
@@ -16,7 +18,7 @@ pub enum Form {
 }
 
 // What ds64 says ahead of its entries (000 5.5, 002 2.4).
-#[derive(Drop)]
+#[derive(Clone, Copy)]
 pub struct Ds64 {
     pub form_size: u64,
     pub data_size: u64,
@@ -40,14 +42,14 @@ impl Ds64 {
 }
 
 // A form, with the ds64 of a 64-bit one; RIFF has one of zeros.
-#[derive(Drop)]
+#[derive(Clone, Copy)]
 pub struct Head {
     pub form: Form,
     pub ds64: Ds64,
 }
 
 // A file whose form is good, and where its other chunks start: in RIFF the first of all, in a 64-bit form past ds64.
-#[derive(Drop)]
+#[derive(Clone, Copy)]
 pub struct Start {
     pub head: Head,
     // The place of the first of them, if its header is there.
@@ -57,7 +59,7 @@ pub struct Start {
 }
 
 // What checks 1 to 5 answer.
-#[derive(Drop)]
+#[derive(Clone, Copy)]
 pub enum Opened {
     Start(Start),
     Refused(Refusal),
@@ -75,13 +77,13 @@ pub fn is_wide(form: Form) -> bool
 }
 
 // A ds64 that keeps its rules, and the place of the chunk past it.
-#[derive(Drop)]
+#[derive(Clone, Copy)]
 struct Parsed {
     ds64: Ds64,
     next: u64,
 }
 
-#[derive(Drop)]
+#[derive(Clone, Copy)]
 enum Parsing {
     Good(Parsed),
     Broken,

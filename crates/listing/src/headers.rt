@@ -9,21 +9,21 @@ use chunk::{Header, Refusal, Step, Table};
 use form::Start;
 
 // Where a run of passed chunks ends, and how many headers may still come.
-#[derive(Drop)]
+#[derive(Clone, Copy)]
 pub struct Passed {
     pub place: u64,
     pub room: u64,
 }
 
 // What is noted of chunks: their tally, the first header, and their number.
-#[derive(Drop)]
+#[derive(Clone, Copy)]
 pub struct Noted {
     pub tally: Tally,
     pub first: Header,
     pub count: u64,
 }
 
-#[derive(Drop)]
+#[derive(Clone, Copy)]
 pub enum Tallied {
     Noted(Noted),
     Refused(Refusal),

@@ -1,4 +1,6 @@
 // The listing of a file: checks 1 to 10, and what they found of it besides the table.
+#![tactic(auto)]
+
 mod headers;
 mod tally;
 
@@ -12,21 +14,21 @@ use headers::{Noted, Tallied};
 use tally::Tally;
 
 // A chunk's payload: where it starts, and its true size.
-#[derive(Drop)]
+#[derive(Clone, Copy)]
 pub struct Payload {
     pub place: u64,
     pub size: u64,
 }
 
 // fact's payload starts at a place, or there is no fact.
-#[derive(Drop)]
+#[derive(Clone, Copy)]
 pub enum Fact {
     At(u64),
     None,
 }
 
 // What checks 1 to 10 found.
-#[derive(Drop)]
+#[derive(Clone, Copy)]
 pub struct Listing {
     pub head: Head,
     // The header of the first chunk; in a 64-bit form of the first past ds64.
@@ -38,7 +40,7 @@ pub struct Listing {
     pub count: u64,
 }
 
-#[derive(Drop)]
+#[derive(Clone, Copy)]
 pub enum Listed {
     Listing(Listing),
     Refused(Refusal),

@@ -6,7 +6,7 @@ use super::Payload;
 use chunk::{Entry, Name};
 
 // How many chunks of each name were met, and where the last was; zeros before the first.
-#[derive(Drop)]
+#[derive(Clone, Copy)]
 pub struct Tally {
     // The five counts in one number, eight bits each: a file has at most 64 chunks. A fact below 4 bytes counts twice,
     // since two are refused as one such is.

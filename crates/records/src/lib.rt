@@ -1,4 +1,6 @@
 // The records as C callers have them: read into lent words, written from words and runs.
+#![tactic(auto)]
+
 ghost use Rattle.std.specs.Prelude.{◌≡◌};
 ghost use Rattle.bext.specs.Records.{flag_of};
 ghost use Rattle.bext.specs.Writing.{asked};
@@ -108,7 +110,7 @@ pub fn chna_entry(payload: &[u8], i: usize, words: &mut [u64]) -> u32
 }
 
 // Words that a writer is given for a format record.
-#[derive(Drop)]
+#[derive(Clone, Copy)]
 pub enum Given {
     Nine(Format),
     // More or fewer than nine, which is 16.

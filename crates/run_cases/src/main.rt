@@ -3,6 +3,8 @@
 // The input is a script (the crate script says how a file is put together). n$ asks the four of the first n bytes and
 // upgrades them to RF64, n% to BW64; ? prints the form and ds64, n' the 4 bytes at n.
 // What is expected stands in the file stdout, worked out from document 01.
+#![tactic(auto)]
+
 ghost use Rattle.std.specs.Prelude.{◌+◌, ◌≤◌, length};
 
 use chunk::Verdict;

@@ -10,6 +10,8 @@
 // were read, and the answer to an output that is too short. An entry prints its index and identifiers, a copy whether it is
 // the same bytes, and whether an output that is too short still is. What is expected stands in the file stdout, worked out from
 // document 01.
+#![tactic(auto)]
+
 ghost use Rattle.std.specs.Prelude.{◌≤◌, length};
 
 use bext::Bext;

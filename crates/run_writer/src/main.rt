@@ -1,6 +1,8 @@
 // Writes files of each form, with and without bext and chna, of even, odd and no audio, and prints each file's length, its
 // table as the scan has it, and for a 64-bit form the four numbers of its ds64. The document's whole file is printed byte by
 // byte. What is expected stands in the file stdout, worked out from document 01.
+#![tactic(auto)]
+
 ghost use Rattle.std.specs.Prelude.{◌≤◌};
 
 use chunk::Written;

@@ -1,4 +1,6 @@
 // The sample count of a file: what fact says, or in RF64 ds64's third number.
+#![tactic(auto)]
+
 ghost use Rattle.std.specs.Prelude.{◌≡◌, ◌+◌, ◌≤◌, length};
 ghost use Rattle.samples.specs.Counts.{samples_of};
 ghost use Rattle.samples.specs.Code.{count_at};
@@ -9,7 +11,7 @@ use listing::Fact;
 use wave::judgement::Examined;
 
 // What the question for the sample count is answered.
-#[derive(Drop)]
+#[derive(Clone, Copy)]
 pub enum Samples {
     // The number that fact, or RF64's ds64, gives.
     Count(u64),

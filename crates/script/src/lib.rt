@@ -3,11 +3,13 @@
 // Digits are a decimal number n; @ goes to place n; comma, full stop, plus and ^ put n as 1, 2, 4 or 8 bytes; * puts four
 // bytes of ones; "text" puts a text; = keeps the file, ! takes the kept one back; a semicolon starts a comment, to the end
 // of the line. (text) is to be printed, and any other character is a command to the program that runs the script.
+#![tactic(auto)]
+
 ghost use Rattle.std.specs.Prelude.{◌≡◌, ◌<◌, length, take, drop};
 ghost use Rattle.script.specs.Scripts.{after, command_of, laid, place_after, put_at, sign_of, started, still, within, work};
 
 // What the next character belongs to.
-#[derive(Drop)]
+#[derive(Clone, Copy)]
 pub enum Mode {
     Command,
     // A text to put.
@@ -18,7 +20,7 @@ pub enum Mode {
 }
 
 // What the characters so far have come to.
-#[derive(Drop)]
+#[derive(Clone, Copy)]
 pub struct State {
     pub mode: Mode,
     // Where the next byte goes.
@@ -28,7 +30,7 @@ pub struct State {
 }
 
 // What a character means.
-#[derive(Drop)]
+#[derive(Clone, Copy)]
 pub enum Sign {
     // A digit of the number.
     Digit(u8),

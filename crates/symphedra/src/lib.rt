@@ -2,6 +2,8 @@
 //
 // A run is a pointer and a length. A number is returned: 0, or the document's number of a refusal. Where the words to
 // answer in are too few, that is 15, ahead of everything else, and no word changes.
+#![tactic(auto)]
+
 pub mod writers;
 
 ghost use Rattle.records.specs.Reading.{ReadsFmt, ReadsBext, PartsOf, ReadsChna, EntryOf};

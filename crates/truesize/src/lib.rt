@@ -1,4 +1,6 @@
 // The true size of a chunk with where it came from, and the scan's step over a header.
+#![tactic(auto)]
+
 ghost use Rattle.std.specs.Prelude.{◌≡◌, ◌+◌, ◌*◌, ◌≤◌, length, drop};
 ghost use Rattle.le.specs.Number.{number};
 ghost use Rattle.chunk.specs.Code.{HeaderAt, step_on};
@@ -10,7 +12,7 @@ use chunk::{Header, Name, Refusal, Source, Step, TrueSize};
 use form::{Ds64, Head};
 
 // A true size, or none is known: 7.
-#[derive(Drop)]
+#[derive(Clone, Copy)]
 enum Size {
     Known(TrueSize),
     Unknown,

@@ -2,6 +2,8 @@
 //
 // It changes only the form name and field, JUNK's name and first 28 payload bytes, data's size field, and, for RF64 with
 // fact, fact's first 4 bytes. A refused file is not touched.
+#![tactic(auto)]
+
 ghost use Rattle.std.specs.Prelude.{◌≡◌, ◌+◌, ◌≤◌, length};
 ghost use Rattle.form.specs.Forms.{LEAST};
 ghost use Rattle.upgrade.specs.Upgrades.{patched, target_name};
@@ -15,21 +17,21 @@ use listing::Fact;
 use wave::judgement::{Accepted, Examined};
 
 // What a file can be upgraded to: no other target can be named.
-#[derive(Drop)]
+#[derive(Clone, Copy)]
 pub enum Target {
     Rf64,
     Bw64,
 }
 
 // The JUNK chunk ahead of all others that keeps room for a ds64.
-#[derive(Drop)]
+#[derive(Clone, Copy)]
 pub struct Reserve {
     // The size of its payload.
     pub size: u64,
 }
 
 // Whether a file has one.
-#[derive(Drop)]
+#[derive(Clone, Copy)]
 pub enum Reserved {
     Room(Reserve),
     None,

@@ -9,7 +9,7 @@ use form::Head;
 use listing::{Fact, Listed, Listing, Payload};
 
 // What the scan knows of a file that it accepts, besides its table.
-#[derive(Drop)]
+#[derive(Clone, Copy)]
 pub struct Accepted {
     pub head: Head,
     pub first: Header,
@@ -19,7 +19,7 @@ pub struct Accepted {
     pub format: Format,
 }
 
-#[derive(Drop)]
+#[derive(Clone, Copy)]
 pub enum Examined {
     Accepted(Accepted),
     Refused(Refusal),

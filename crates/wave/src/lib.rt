@@ -2,6 +2,8 @@
 //
 // Each comes twice: once by value, and once into words that the caller lends, laid out as chunk::Table has them. Nothing
 // is asked of the bytes or of the words.
+#![tactic(auto)]
+
 pub mod judgement;
 mod rows;
 

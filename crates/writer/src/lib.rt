@@ -2,6 +2,8 @@
 //
 // It writes the form's name, its field and WAVE, then JUNK (RIFF) or ds64 (RF64, BW64) of 28 bytes, then fmt, bext, chna
 // and data. An empty payload of bext or chna is left out.
+#![tactic(auto)]
+
 ghost use Rattle.std.specs.Prelude.{◌≡◌, ◌+◌, ◌≤◌, length};
 ghost use Rattle.chunk.specs.Names.{BEXT, CHNA, FMT};
 ghost use Rattle.chunk.specs.Writes.{Writes};
