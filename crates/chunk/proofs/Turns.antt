@@ -17,7 +17,7 @@ use Rattle.chunk.specs.declared.Verdict.TheVariants.{Accepted, Refused}
 use Rattle.chunk.specs.declared.Step.{Step}
 use Rattle.chunk.specs.declared.Step.TheVariants as code
 use Rattle.chunk.specs.Refusals.{Answer, refused, given}
-use Rattle.chunk.specs.Walks.{Chunk, Stop, Rule, Walked, entry_of, past, placed, sized, step, step_at, walk}
+use Rattle.chunk.specs.Walks.{Stop, Rule, Walked, entry_of, past, placed, sized, step, step_at, walk}
 use Rattle.chunk.specs.Code.{header_of, HeaderAt, Due, ends_at, placed_in, found_as, step_on, walk_after, full}
 use Rattle.chunk.proofs.Checks.{pick_true, pick-false, picked}
 use Rattle.chunk.proofs.Laid.{past-aligned, step-sized, step_end, walk-stop, walk-chunk}
