@@ -151,7 +151,7 @@ pub fn copy(payload: &[u8], out: &mut [u8])
     if out.len() < n {
         return;
     }
-    bytes::copy(payload, out);
+    out[..n].copy_from_slice(payload);
     zero_pads(&mut out[..n]);
 }
 
@@ -172,7 +172,7 @@ pub fn write(tracks: u64, uids: u64, entries: &[u8], channels: u64, out: &mut [u
     }
     le::store2(out, 0, tracks);
     le::store2(out, 2, uids);
-    bytes::copy(entries, &mut out[4..]);
+    out[4..size].copy_from_slice(entries);
     zero_pads(&mut out[..size]);
     Written::Bytes(size as u64)
 }

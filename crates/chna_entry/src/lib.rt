@@ -205,7 +205,7 @@ fn copy_part(s: &[u8], at: usize, out: &mut [u8])
     ensures { out.new ≡ field (length out.old) at s.now }
 {
     let end = at + out.len();
-    bytes::copy(&s[at..end], out);
+    out.copy_from_slice(&s[at..end]);
 }
 
 impl Entry {

@@ -40,7 +40,7 @@ pub fn put_payload(payload: &[u8], out: &mut [u8], at: usize) -> usize
     ensures { Puts payload.now at out.old out.new result }
 {
     let end = at + payload.len();
-    bytes::copy(payload, &mut out[at..end]);
+    out[at..end].copy_from_slice(payload);
     end
 }
 
