@@ -1,0 +1,14 @@
+-- `bext_parts::digit` meets its contract: the first test decides, or the second.
+use borrow.Author.Tests.{le-leb, lt-leb}
+use Rattle.bext_parts.specs.Parts.{is_digit}
+use Rattle.bext_parts.proofs.digit.Goals as goal
+
+pub returns-then-b-ge48 : goal.returns-then-b-ge48
+unfolding is_digit
+returns-then-b-ge48 c =
+    simp (le-leb _ _ c.if-b-ge48.true)
+
+pub returns-else-b-ge48 : goal.returns-else-b-ge48
+unfolding is_digit
+returns-else-b-ge48 c =
+    simp (lt-leb _ _ c.if-b-ge48.false)

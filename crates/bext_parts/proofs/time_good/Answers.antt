@@ -1,0 +1,54 @@
+-- `bext_parts::time_good` meets its contract: the flag of each test is the rule so far.
+use mathlib.Core.Path.{◌≡◌, refl}
+use mathlib.Core.Bool.{Bool, ◌&&◌}
+use mathlib.Core.List.{List}
+use mathlib.Core.Logic.{⊎_elim}
+use Prim.Native.Nat.{ℕ}
+use lib.ListN.{get_or}
+use Rattle.bext_parts.specs.Parts.{two_digits, is_separator, time_good}
+use Rattle.bext_parts.proofs.Tests.{and_first, and_second}
+use Rattle.bext_parts.proofs.time_good.Goals as goal
+
+-- the rule as far as each test
+abbrev upto2 : List ℕ → Bool
+upto2 t = two_digits t 0 0 24 && is_separator (get_or t 2 0)
+
+abbrev upto3 : List ℕ → Bool
+upto3 t = upto2 t && two_digits t 3 0 59
+
+abbrev upto4 : List ℕ → Bool
+upto4 t = upto3 t && is_separator (get_or t 5 0)
+
+pub returns-then-separator-2 : goal.returns-then-separator-2
+unfolding time_good
+returns-then-separator-2 c =
+    let flag2 : c.if-two_digits.if2 ≡ upto2 c.args.t.now = ⊎_elim
+    (λ w. and_second _ _ c.two_digits.ensures w.0.taken w.3 w.2.ensures)
+    (λ w. and_first _ _ c.two_digits.ensures w.0.left w.1)
+    c.if-two_digits.branch in
+    let flag3 : c.if-separator.if3 ≡ upto3 c.args.t.now = ⊎_elim
+    (λ w. and_second _ _ flag2 w.0.taken w.2 w.1.ensures)
+    (λ w. and_first _ _ flag2 w.0.left w.1)
+    c.if-separator.branch in
+    let flag4 : c.if-two_digits-2.if4 ≡ upto4 c.args.t.now = ⊎_elim
+    (λ w. and_second _ _ flag3 w.0.taken w.3 w.2.ensures)
+    (λ w. and_first _ _ flag3 w.0.left w.1)
+    c.if-two_digits-2.branch in
+    and_second _ _ flag4 c.if-separator-2.true refl c.two_digits-then-separator-2.ensures
+
+pub returns-else-separator-2 : goal.returns-else-separator-2
+unfolding time_good
+returns-else-separator-2 c =
+    let flag2 : c.if-two_digits.if2 ≡ upto2 c.args.t.now = ⊎_elim
+    (λ w. and_second _ _ c.two_digits.ensures w.0.taken w.3 w.2.ensures)
+    (λ w. and_first _ _ c.two_digits.ensures w.0.left w.1)
+    c.if-two_digits.branch in
+    let flag3 : c.if-separator.if3 ≡ upto3 c.args.t.now = ⊎_elim
+    (λ w. and_second _ _ flag2 w.0.taken w.2 w.1.ensures)
+    (λ w. and_first _ _ flag2 w.0.left w.1)
+    c.if-separator.branch in
+    let flag4 : c.if-two_digits-2.if4 ≡ upto4 c.args.t.now = ⊎_elim
+    (λ w. and_second _ _ flag3 w.0.taken w.3 w.2.ensures)
+    (λ w. and_first _ _ flag3 w.0.left w.1)
+    c.if-two_digits-2.branch in
+    and_first _ _ flag4 c.if-separator-2.false refl

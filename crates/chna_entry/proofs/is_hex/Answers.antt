@@ -1,0 +1,50 @@
+-- `chna_entry::is_hex` meets its contract: at each exit the tests on the way say in which range the byte lies.
+use native.Mathlib.Omega.{arith}
+use borrow.Author.Tests.{le-leb, lt-leb}
+use Rattle.chna_entry.specs.Ids.{is_hex}
+use Rattle.chna_entry.proofs.is_hex.Goals as goal
+
+pub returns-in-48-to-57 : goal.returns-in-48-to-57
+unfolding is_hex
+returns-in-48-to-57 c =
+    let b = c.args.b in
+    simp (le-leb 48 b (omega arith), le-leb b 57 (omega arith))
+
+pub returns-in-65-to-70 : goal.returns-in-65-to-70
+unfolding is_hex
+returns-in-65-to-70 c =
+    let b = c.args.b in
+    simp (lt-leb b 57 (omega arith), le-leb 48 b (omega arith), le-leb 65 b (omega arith), le-leb b 70 (omega arith))
+
+pub returns-in-97-to-102 : goal.returns-in-97-to-102
+unfolding is_hex
+returns-in-97-to-102 c =
+    let b = c.args.b in
+    simp
+    (le-leb 48 b (omega arith), lt-leb b 57 (omega arith), le-leb 65 b (omega arith), lt-leb b 70 (omega arith), le-leb 97 b (omega arith), le-leb b 102 (omega arith))
+
+pub returns-in_default : goal.returns-in_default
+unfolding is_hex
+returns-in_default c =
+    let b = c.args.b in
+    simp (lt-leb 48 b (omega arith), lt-leb 65 b (omega arith), lt-leb 97 b (omega arith))
+
+pub returns-in_default-2 : goal.returns-in_default-2
+unfolding is_hex
+returns-in_default-2 c =
+    let b = c.args.b in
+    simp (le-leb 48 b (omega arith), lt-leb b 57 (omega arith), lt-leb 65 b (omega arith), lt-leb 97 b (omega arith))
+
+pub returns-in_default-3 : goal.returns-in_default-3
+unfolding is_hex
+returns-in_default-3 c =
+    let b = c.args.b in
+    simp
+    (le-leb 48 b (omega arith), lt-leb b 57 (omega arith), le-leb 65 b (omega arith), lt-leb b 70 (omega arith), lt-leb 97 b (omega arith))
+
+pub returns-in_default-4 : goal.returns-in_default-4
+unfolding is_hex
+returns-in_default-4 c =
+    let b = c.args.b in
+    simp
+    (le-leb 48 b (omega arith), lt-leb b 57 (omega arith), le-leb 65 b (omega arith), lt-leb b 70 (omega arith), le-leb 97 b (omega arith), lt-leb b 102 (omega arith))

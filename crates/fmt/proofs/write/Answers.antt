@@ -1,0 +1,21 @@
+-- `fmt::write` meets its contract: a writable record's payload is as long as its size says.
+use mathlib.Core.Path.{◌≡◌, ◌∙◌, sym}
+use mathlib.Core.Bool.{true}
+use native.Mathlib.Omega.{arith}
+use borrow.Author.Tests.{not-true, not-false}
+use Rattle.fmt.specs.Writing.{writable}
+use Rattle.fmt.proofs.Payloads.{refuse16, refuse15, wrote}
+use Rattle.fmt.proofs.write.Goals as goal
+
+pub returns-then-not-is_writable : goal.returns-then-not-is_writable
+returns-then-not-is_writable c =
+    refuse16 _ _ (sym c.is_writable.ensures ∙ c.if-not-is_writable.true)
+
+pub returns-then-out-size : goal.returns-then-out-size
+returns-then-out-size c =
+    let can : writable c.args.format ≡ true = sym c.is_writable.ensures ∙ c.if-not-is_writable.false in
+    refuse15 _ _ can (omega arith)
+
+pub returns : goal.returns
+returns c =
+    wrote _ _ (can c) _ (omega arith) c.store.ensures

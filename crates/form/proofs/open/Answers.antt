@@ -1,0 +1,59 @@
+-- `form::open` meets its contract: the law of each outcome, and past each test of the name the form is known.
+use mathlib.Core.Path.{◌≡◌, refl, ◌∙◌, ap, sym}
+use Rattle.form.specs.declared.Form.{Form}
+use Rattle.form.specs.declared.Form.TheVariants.{Riff, Rf64, Bw64}
+use Rattle.form.specs.Forms.{name_of, is_wide, head_of}
+use Rattle.form.specs.Code.{opened_as, head_then}
+use Rattle.form.proofs.Opens.{open-short, open-unnamed, open-no-wave, open-wave}
+use Rattle.form.proofs.open.Goals as goal
+
+pub returns-then-file-lt12 : goal.returns-then-file-lt12
+unfolding opened_as
+returns-then-file-lt12 c =
+    sym (ap (opened_as _) (open-short _ c.if-file-lt12.true))
+
+pub returns-then-read4-ne-WAVE : goal.returns-then-read4-ne-WAVE
+unfolding opened_as
+returns-then-read4-ne-WAVE c =
+    sym (ap (opened_as _) (open-no-wave _ c.if-file-lt12.false (λ e. c.if-read4-ne-WAVE.true (c.read4.ensures.is ∙ e))))
+
+-- TODO helper over a place
+-- past WAVE the name of a form leaves that form's own checks
+formed : (c : tie.After-read42) (f : Form) → c.read42.result ≡ name_of f
+    → opened_as c.before.before.before.before.before.args.file.now (head_then f c.before.before.before.before.before.args.file.now)
+    ≡ opened_as c.before.before.before.before.before.args.file.now (head_of c.before.before.before.before.before.args.file.now)
+formed c f e =
+    sym (ap (opened_as _) (open-wave _ f c.before.before.before.if1.false (sym c.before.before.read4.ensures.is ∙ c.before.if2.false)
+    (sym c.read42.ensures.is ∙ e)))
+
+pub returns-then-name-eq-RIFF : goal.returns-then-name-eq-RIFF
+unfolding name_of
+returns-then-name-eq-RIFF c =
+    c.riff.ensures ∙ formed c Riff c.if-name-eq-RIFF.true
+
+pub wide-requires : goal.wide-requires
+unfolding is_wide
+wide-requires c =
+    (c.if-file-lt12.false, refl)
+
+pub returns-then-name-eq-RF64 : goal.returns-then-name-eq-RF64
+unfolding name_of
+returns-then-name-eq-RF64 c =
+    c.wide.ensures ∙ formed c Rf64 c.if-name-eq-RF64.true
+
+pub wide-requires-then-name-eq-BW64 : goal.wide-requires-then-name-eq-BW64
+unfolding is_wide
+wide-requires-then-name-eq-BW64 c =
+    (c.if-file-lt12.false, refl)
+
+pub returns-then-name-eq-BW64 : goal.returns-then-name-eq-BW64
+unfolding name_of
+returns-then-name-eq-BW64 c =
+    c.wide-then-name-eq-BW64.ensures ∙ formed c Bw64 c.if-name-eq-BW64.true
+
+pub returns : goal.returns
+unfolding opened_as
+returns c =
+    let q = c.read4-name.ensures.is in
+    sym (ap (opened_as _) (open-unnamed _ c.if-file-lt12.false
+    (λ e. c.if-name-eq-RIFF.false (q ∙ e)) (λ e. c.if-name-eq-RF64.false (q ∙ e)) (λ e. c.if-name-eq-BW64.false (q ∙ e))))
