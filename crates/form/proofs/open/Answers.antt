@@ -1,5 +1,7 @@
 -- `form::open` meets its contract: the law of each outcome, and past each test of the name the form is known.
-use mathlib.Core.Path.{◌≡◌, refl, ◌∙◌, ap, sym}
+use Rattle.std.proofs.Common.{◌≡◌, ◌≤◌, ℕ, List, length, refl, ◌∙◌, ap, sym}
+use Rattle.le.specs.Number.{number}
+use Rattle.chunk.specs.Names.{WAVE}
 use Rattle.form.specs.declared.Form.{Form}
 use Rattle.form.specs.declared.Form.TheVariants.{Riff, Rf64, Bw64}
 use Rattle.form.specs.Forms.{name_of, is_wide, head_of}
@@ -17,19 +19,15 @@ unfolding opened_as
 returns-then-read4-ne-WAVE c =
     sym (ap (opened_as _) (open-no-wave _ c.if-file-lt12.false (λ e. c.if-read4-ne-WAVE.true (c.read4.ensures.is ∙ e))))
 
--- TODO helper over a place
 -- past WAVE the name of a form leaves that form's own checks
-formed : (c : tie.After-read42) (f : Form) → c.read42.result ≡ name_of f
-    → opened_as c.before.before.before.before.before.args.file.now (head_then f c.before.before.before.before.before.args.file.now)
-    ≡ opened_as c.before.before.before.before.before.args.file.now (head_of c.before.before.before.before.before.args.file.now)
-formed c f e =
-    sym (ap (opened_as _) (open-wave _ f c.before.before.before.if1.false (sym c.before.before.read4.ensures.is ∙ c.before.if2.false)
-    (sym c.read42.ensures.is ∙ e)))
+formed : (s : List ℕ) (f : Form) → 12 ≤ length s → number 4 8 s ≡ WAVE → number 4 0 s ≡ name_of f
+    → opened_as s (head_then f s) ≡ opened_as s (head_of s)
+formed s f a b e = sym (ap (opened_as _) (open-wave _ f a b e))
 
 pub returns-then-name-eq-RIFF : goal.returns-then-name-eq-RIFF
 unfolding name_of
 returns-then-name-eq-RIFF c =
-    c.riff.ensures ∙ formed c Riff c.if-name-eq-RIFF.true
+    c.riff.ensures ∙ formed _ Riff c.if-file-lt12.false (sym c.read4.ensures.is ∙ c.if-read4-ne-WAVE.false) (sym c.read4-name.ensures.is ∙ c.if-name-eq-RIFF.true)
 
 pub wide-requires : goal.wide-requires
 unfolding is_wide
@@ -39,7 +37,7 @@ wide-requires c =
 pub returns-then-name-eq-RF64 : goal.returns-then-name-eq-RF64
 unfolding name_of
 returns-then-name-eq-RF64 c =
-    c.wide.ensures ∙ formed c Rf64 c.if-name-eq-RF64.true
+    c.wide.ensures ∙ formed _ Rf64 c.if-file-lt12.false (sym c.read4.ensures.is ∙ c.if-read4-ne-WAVE.false) (sym c.read4-name.ensures.is ∙ c.if-name-eq-RF64.true)
 
 pub wide-requires-then-name-eq-BW64 : goal.wide-requires-then-name-eq-BW64
 unfolding is_wide
@@ -49,7 +47,7 @@ wide-requires-then-name-eq-BW64 c =
 pub returns-then-name-eq-BW64 : goal.returns-then-name-eq-BW64
 unfolding name_of
 returns-then-name-eq-BW64 c =
-    c.wide-then-name-eq-BW64.ensures ∙ formed c Bw64 c.if-name-eq-BW64.true
+    c.wide-then-name-eq-BW64.ensures ∙ formed _ Bw64 c.if-file-lt12.false (sym c.read4.ensures.is ∙ c.if-read4-ne-WAVE.false) (sym c.read4-name.ensures.is ∙ c.if-name-eq-BW64.true)
 
 pub returns : goal.returns
 unfolding opened_as

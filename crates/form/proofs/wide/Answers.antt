@@ -1,6 +1,5 @@
 -- `form::wide` meets its contract: a broken ds64 is 4, and a good one gives the form size where the field has none.
 use mathlib.Core.Path.{◌≡◌, ◌∙◌, ap, sym}
-use mathlib.Core.Logic.{⊎_elim}
 use native.Mathlib.Omega.{arith}
 use Rattle.le.specs.Number.{number}
 use Rattle.form.specs.declared.Ds64.{Ds64}
@@ -8,6 +7,7 @@ use Rattle.form.specs.Forms.{ds64_at, form_size}
 use Rattle.form.specs.Code.{opened_as}
 use Rattle.form.proofs.Heads.{form-own, head-wide}
 use Rattle.form.proofs.Opens.{Parses, parsed-good, parsed-broken, wide-broken, opened-wide, then-refused, whole_in_lem, whole_out, size-ones}
+use Rattle.form.proofs.wide.Goals.{then-own-eq-ONES, else-own-eq-ONES}
 use Rattle.form.proofs.wide.Goals as goal
 
 pub returns-in_default : goal.returns-in_default
@@ -21,10 +21,10 @@ unfolding opened_as
 returns-then-size-file c =
     let parses : Parses c.args.file.now c.in-Good.parsed = parsed-good _ _ (sym c.parse-parsing.ensures ∙ c.in-Good.is) in
     let size : c.if-own-eq-ONES.size ≡ form_size (record { form = c.args.form; ds64 = ds64_at c.args.file.now }) (number 4 4 c.args.file.now) = let q = c.read4-own.ensures.is in
-    ⊎_elim
-    (λ w. w.1 ∙ ap (λ (d : Ds64). d.form_size) parses.ds64 ∙ sym (size-ones _ _ (sym q ∙ w.0.taken)))
-    (λ w. w.1 ∙ q ∙ sym (form-own _ _ (λ z. w.0.left (q ∙ z))))
-    c.if-own-eq-ONES.branch in
+    elim c.if-own-eq-ONES.branch [
+    | then-own-eq-ONES w ↦ w.size-is ∙ ap (λ (d : Ds64). d.form_size) parses.ds64 ∙ sym (size-ones _ _ (sym q ∙ w.if-own-eq-ONES.true))
+    | else-own-eq-ONES w ↦ w.size-is ∙ q ∙ sym (form-own _ _ (λ z. w.if-own-eq-ONES.false (q ∙ z)))
+    ] in
     let n = size in
     sym (ap (opened_as _) (whole_out _ _ _ (head-wide _ _ c.requires.1 parses.good)
     λ e. c.if-size-file.true (omega (arith, n, e))))
@@ -34,10 +34,10 @@ unfolding opened_as
 returns c =
     let parses : Parses c.args.file.now c.in-Good.parsed = parsed-good _ _ (sym c.parse-parsing.ensures ∙ c.in-Good.is) in
     let size : c.if-own-eq-ONES.size ≡ form_size (record { form = c.args.form; ds64 = ds64_at c.args.file.now }) (number 4 4 c.args.file.now) = let q = c.read4-own.ensures.is in
-    ⊎_elim
-    (λ w. w.1 ∙ ap (λ (d : Ds64). d.form_size) parses.ds64 ∙ sym (size-ones _ _ (sym q ∙ w.0.taken)))
-    (λ w. w.1 ∙ q ∙ sym (form-own _ _ (λ z. w.0.left (q ∙ z))))
-    c.if-own-eq-ONES.branch in
+    elim c.if-own-eq-ONES.branch [
+    | then-own-eq-ONES w ↦ w.size-is ∙ ap (λ (d : Ds64). d.form_size) parses.ds64 ∙ sym (size-ones _ _ (sym q ∙ w.if-own-eq-ONES.true))
+    | else-own-eq-ONES w ↦ w.size-is ∙ q ∙ sym (form-own _ _ (λ z. w.if-own-eq-ONES.false (q ∙ z)))
+    ] in
     let n = size in
     let p = parses in
     let w = c.requires.1 in
