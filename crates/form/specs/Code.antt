@@ -8,7 +8,6 @@ use Rattle.form.specs.declared.Form.{Form}
 use Rattle.form.specs.declared.Head.{Head}
 use Rattle.form.specs.declared.Opened.{Opened}
 use Rattle.form.specs.declared.Opened.TheVariants as opened
-use Rattle.form.specs.declared.Start.{Start}
 use Rattle.form.specs.declared.Parsing.{Parsing}
 use Rattle.form.specs.declared.Parsing.TheVariants as parsing
 use Rattle.form.specs.Forms.{is_wide, ds64_good, ds64_at, head_as, whole_as}

@@ -22,8 +22,8 @@ returns-then-size-file c =
     let parses : Parses c.args.file.now c.in-Good.parsed = parsed-good _ _ (sym c.parse-parsing.ensures ∙ c.in-Good.is) in
     let size : c.if-own-eq-ONES.size ≡ form_size (record { form = c.args.form; ds64 = ds64_at c.args.file.now }) (number 4 4 c.args.file.now) = let q = c.read4-own.ensures.is in
     elim c.if-own-eq-ONES.branch [
-    | then-own-eq-ONES w ↦ w.size-is ∙ ap (λ (d : Ds64). d.form_size) parses.ds64 ∙ sym (size-ones _ _ (sym q ∙ w.if-own-eq-ONES.true))
-    | else-own-eq-ONES w ↦ w.size-is ∙ q ∙ sym (form-own _ _ (λ z. w.if-own-eq-ONES.false (q ∙ z)))
+      | then-own-eq-ONES w ↦ w.size-is ∙ ap (λ (d : Ds64). d.form_size) parses.ds64 ∙ sym (size-ones _ _ (sym q ∙ w.if-own-eq-ONES.true))
+      | else-own-eq-ONES w ↦ w.size-is ∙ q ∙ sym (form-own _ _ (λ z. w.if-own-eq-ONES.false (q ∙ z)))
     ] in
     let n = size in
     sym (ap (opened_as _) (whole_out _ _ _ (head-wide _ _ c.requires.1 parses.good)
@@ -35,8 +35,8 @@ returns c =
     let parses : Parses c.args.file.now c.in-Good.parsed = parsed-good _ _ (sym c.parse-parsing.ensures ∙ c.in-Good.is) in
     let size : c.if-own-eq-ONES.size ≡ form_size (record { form = c.args.form; ds64 = ds64_at c.args.file.now }) (number 4 4 c.args.file.now) = let q = c.read4-own.ensures.is in
     elim c.if-own-eq-ONES.branch [
-    | then-own-eq-ONES w ↦ w.size-is ∙ ap (λ (d : Ds64). d.form_size) parses.ds64 ∙ sym (size-ones _ _ (sym q ∙ w.if-own-eq-ONES.true))
-    | else-own-eq-ONES w ↦ w.size-is ∙ q ∙ sym (form-own _ _ (λ z. w.if-own-eq-ONES.false (q ∙ z)))
+      | then-own-eq-ONES w ↦ w.size-is ∙ ap (λ (d : Ds64). d.form_size) parses.ds64 ∙ sym (size-ones _ _ (sym q ∙ w.if-own-eq-ONES.true))
+      | else-own-eq-ONES w ↦ w.size-is ∙ q ∙ sym (form-own _ _ (λ z. w.if-own-eq-ONES.false (q ∙ z)))
     ] in
     let n = size in
     let p = parses in
