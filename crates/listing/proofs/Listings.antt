@@ -18,7 +18,7 @@ use Rattle.chunk.specs.declared.Verdict.{Verdict}
 use Rattle.chunk.specs.declared.Verdict.TheVariants.{Accepted, Refused}
 use Rattle.chunk.specs.Refusals.{Answer, refused, given, check}
 use Rattle.chunk.specs.Names.{DS64}
-use Rattle.chunk.specs.Tables.{count, LIMIT}
+use Rattle.chunk.specs.Tables.{LIMIT}
 use Rattle.chunk.specs.Walks.{Walked, entry_of, field_size, past, walk}
 use Rattle.chunk.specs.Code.{header_of}
 use Rattle.chunk.proofs.Checks.{picked, pick_true, pick-false, check-true, check-false, and_then-at, and_then-refused}
@@ -33,7 +33,6 @@ use Rattle.form.proofs.Opens.{Starts}
 use Rattle.truesize.specs.Sizes.{entries_of}
 use Rattle.truesize.proofs.Sizes.{true-ds64}
 use Rattle.listing.specs.declared.tally.Tally.{Tally}
-use Rattle.listing.specs.declared.Fact.TheVariants as fact
 use Rattle.listing.specs.declared.headers.Noted.{Noted}
 use Rattle.listing.specs.declared.headers.Tallied.TheVariants as tallied
 use Rattle.listing.specs.declared.Listing as code
