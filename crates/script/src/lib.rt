@@ -127,7 +127,7 @@ fn copy(from: &[u8], to: &mut [u8])
     ensures { to.new ≡ laid from.now to.old }
 {
     if from.len() <= to.len() {
-        bytes::copy(from, to);
+        to[..from.len()].copy_from_slice(from);
     }
 }
 
