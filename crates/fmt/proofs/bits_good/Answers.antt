@@ -6,6 +6,7 @@ use mathlib.Core.Logic.{inl, inr}
 use Prim.Native.Nat.{ℕ}
 use types.Run.{OneOf}
 use borrow.Author.Tests.{ne_eqb}
+use borrow.Author.Rules.{rules}
 use Rattle.fmt.specs.Formats.{bits_good}
 use Rattle.fmt.proofs.bits_good.Goals as goal
 
@@ -32,4 +33,4 @@ returns-in-8 c =
 
 pub returns-in_default : goal.returns-in_default
 returns-in_default c =
-    sym (none _ c.in_default.in_default-own.rest.1)
+    sym (none _ (search rules))

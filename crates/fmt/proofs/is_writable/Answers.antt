@@ -2,7 +2,6 @@
 use mathlib.Core.Path.{◌∙◌, sym}
 use native.Mathlib.Nat.{mul-le-mul, le_of_lt}
 use native.Mathlib.Omega.{arith}
-use borrow.Author.Tests.{not-true, not-false}
 use Rattle.fmt.specs.Writing.{writable}
 use Rattle.fmt.proofs.Laws.{last, fits}
 use Rattle.fmt.proofs.is_writable.Goals as goal
@@ -24,11 +23,10 @@ returns-then-not-record_good c =
       sym c.record_good.ensures ∙ c.if-not-record_good.true,
     )
 
--- TODO no such goal
--- mul-result : tie.Need-overflow-mul-result
--- mul-result c =
---     let fit = fits _ (sym c.before.before.before.before.fields_fit.ensures ∙ not-false _ c.before.before.before.if1.false) in
---     omega (arith, mul-le-mul (le_of_lt fit.rate) (le_of_lt fit.block))
+pub overflow_mul-result : goal.overflow_mul-result
+overflow_mul-result c =
+    let fit = fits _ (sym c.fields_fit.ensures ∙ c.if-not-fields_fit.false) in
+    omega (arith, mul-le-mul (le_of_lt fit.rate) (le_of_lt fit.block))
 
 pub returns : goal.returns
 unfolding writable

@@ -1,5 +1,6 @@
 -- `fmt::payload_length` meets its contract: the arms are the sizes whose payload is not of 16 bytes.
 use mathlib.Core.Path.{sym}
+use native.Mathlib.Omega.{arith}
 use Rattle.fmt.proofs.Payloads.{long-16, long-18, long-40}
 use Rattle.fmt.proofs.payload_length.Goals as goal
 
@@ -13,4 +14,4 @@ returns-in-40 c =
 
 pub returns-in_default : goal.returns-in_default
 returns-in_default c =
-    sym (long-16 _ c.in_default.in_default-own.rest.0.1 c.in_default.in_default-own.rest.1)
+    sym (long-16 c.args.format (omega arith) (omega arith))

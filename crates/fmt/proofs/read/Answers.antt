@@ -5,10 +5,9 @@ use mathlib.Core.List.{List}
 use mathlib.Core.Logic.{◌⊎◌, inl, inr, ⊎_elim}
 use Prim.Native.Nat.{ℕ}
 use lib.ListN.{length}
-use borrow.Author.Tests.{not-true, not-false}
 use Rattle.fmt.specs.declared.Format.{Format}
 use Rattle.fmt.specs.declared.Reading.TheVariants as reading
-use Rattle.fmt.specs.Formats.{record_in, size_good, format_in, read_as}
+use Rattle.fmt.specs.Formats.{record_in, size_good, samples_good, format_in, read_as}
 use Rattle.fmt.specs.Code.{rest_good}
 use Rattle.fmt.proofs.Laws.{size-cases, short, rest-16, size-bad, samples-bad, rest-bad, all-good}
 use Rattle.fmt.proofs.read.Goals as goal
@@ -41,37 +40,29 @@ returns-then-not-samples_good c =
     (samples-bad _ _ c.fields-record.ensures.is
     (sym c.samples_good.ensures ∙ c.if-not-samples_good.true)))
 
--- TODO helper over a place
--- past the size and the samples: the record is the payload's, its size is good, and it is given if the rest is good
-abbrev payload : tie.Else3 → List ℕ
-payload c = c.before.before.before.before.before.before.before.args.payload.now
-
--- TODO helper over a place
-abbrev found : tie.Else3 → Format
-found c = c.before.before.before.before.fields.result
-
--- TODO helper over a place
-whole : (c : tie.Else3) → rest_good (payload c) (found c) ≡ true → reading.Record (found c) ≡ read_as (format_in (payload c))
+-- past the size and the samples: the record is given if the rest is good
+whole : (p : List ℕ) {f : Format} → f ≡ record_in p → size_good f.tag f.size ≡ true
+    → samples_good f.channels f.rate f.block f.bits ≡ true → rest_good p f ≡ true → reading.Record f ≡ read_as (format_in p)
 unfolding read_as
-whole c r = sym (ap read_as (all-good _ _ (is c) (sized c) (sym c.before.samples-good.ensures ∙ not-false _ c.if3.false) r))
+whole p is sized sampled r = sym (ap read_as (all-good _ _ is sized sampled r))
 
 pub returns-then-record-eq16 : goal.returns-then-record-eq16
 returns-then-record-eq16 c =
-    let is : found c ≡ record_in (payload c) = c.fields-record.ensures.is in
-    whole b (ap (rest_good _) is ∙ rest-16 _ (sym (same_size _ is) ∙ c.if-record-eq16.true))
+    let is = c.fields-record.ensures.is in
+    whole _ is (sym c.size_good.ensures ∙ c.if-not-size_good.false) (sym c.samples_good.ensures ∙ c.if-not-samples_good.false)
+    (ap (rest_good _) is ∙ rest-16 _ (sym (same_size _ is) ∙ c.if-record-eq16.true))
 
 pub rest_good-requires : goal.rest_good-requires
 rest_good-requires c =
-    let is : found c ≡ record_in (payload c) = c.fields-record.ensures.is in
-    let sized : size_good (found c).tag (found c).size ≡ true = sym c.size_good.ensures ∙ c.if-not-size_good.false in
-    record { is = is; long = longer _ is sized c.if-record-eq16.false }
+    let is = c.fields-record.ensures.is in
+    record { is = is; long = longer _ is (sym c.size_good.ensures ∙ c.if-not-size_good.false) c.if-record-eq16.false }
 
 pub returns-then-not-rest_good : goal.returns-then-not-rest_good
 unfolding read_as
 returns-then-not-rest_good c =
-    let is : found c ≡ record_in (payload c) = c.fields-record.ensures.is in
-    sym (ap read_as (rest-bad _ _ is (sym c.rest_good.ensures ∙ c.if-not-rest_good.true)))
+    sym (ap read_as (rest-bad _ _ c.fields-record.ensures.is (sym c.rest_good.ensures ∙ c.if-not-rest_good.true)))
 
 pub returns : goal.returns
 returns c =
-    whole c (sym c.rest_good.ensures ∙ c.if-not-rest_good.false)
+    whole _ c.fields-record.ensures.is (sym c.size_good.ensures ∙ c.if-not-size_good.false)
+    (sym c.samples_good.ensures ∙ c.if-not-samples_good.false) (sym c.rest_good.ensures ∙ c.if-not-rest_good.false)

@@ -1,6 +1,5 @@
 -- `fmt::record_good` meets its contract: its three rules in the definition's order.
 use mathlib.Core.Path.{◌∙◌, sym}
-use borrow.Author.Tests.{not-true, not-false}
 use Rattle.fmt.specs.Formats.{record_good}
 use Rattle.fmt.proofs.Laws.{last}
 use Rattle.fmt.proofs.record_good.Goals as goal

@@ -2,7 +2,7 @@
 use mathlib.Core.Path.{◌∙◌, sym}
 use native.Mathlib.Nat.{mul-le-mul_left}
 use native.Mathlib.Omega.{arith}
-use borrow.Author.Tests.{le-leb, lt-leb, not-true, not-false}
+use borrow.Author.Tests.{le-leb, lt-leb}
 use Rattle.fmt.specs.Formats.{samples_good}
 use Rattle.fmt.proofs.Laws.{last, bits_range}
 use Rattle.fmt.proofs.samples_good.Goals as goal
@@ -23,11 +23,10 @@ returns-then-not-bits_good c =
     let e = sym c.bits_good.ensures ∙ c.if-not-bits_good.true in
     simp (le-leb _ _ c.if-channels-lt1.false, le-leb _ _ c.if-rate-lt1.false, e)
 
--- TODO no such goal
--- mul-result : tie.Need-overflow-mul-result
--- mul-result c =
---     let e = sym c.before.bits_good.ensures ∙ not-false _ c.if3.false in
---     omega (arith, mul-le-mul_left c.before.before.before.before.args.channels (bits_range _ e).1)
+pub overflow_mul-result : goal.overflow_mul-result
+overflow_mul-result c =
+    let e = sym c.bits_good.ensures ∙ c.if-not-bits_good.false in
+    omega (arith, mul-le-mul_left c.args.channels (bits_range _ e).1)
 
 pub returns : goal.returns
 unfolding samples_good

@@ -2,6 +2,7 @@
 use mathlib.Core.Path.{ap, sym}
 use Prim.Native.Nat.{ℕ}
 use borrow.Author.Tests.{eq-eqb, ne_eqb}
+use native.Mathlib.Omega.{arith}
 use Rattle.fmt.specs.Formats.{size_good}
 use Rattle.fmt.proofs.size_good.Goals as goal
 
@@ -23,4 +24,4 @@ returns-in-65534 c =
 pub returns-in_default : goal.returns-in_default
 unfolding size_good
 returns-in_default c =
-    simp (ne_eqb _ _ c.in_default.in_default-own.rest.0.1, ne_eqb _ _ c.in_default.in_default-own.rest.1)
+    simp (ne_eqb c.args.tag 1 (omega arith), ne_eqb c.args.tag 65534 (omega arith))

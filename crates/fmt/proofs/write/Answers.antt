@@ -2,7 +2,6 @@
 use mathlib.Core.Path.{◌≡◌, ◌∙◌, sym}
 use mathlib.Core.Bool.{true}
 use native.Mathlib.Omega.{arith}
-use borrow.Author.Tests.{not-true, not-false}
 use Rattle.fmt.specs.Writing.{writable}
 use Rattle.fmt.proofs.Payloads.{refuse16, refuse15, wrote}
 use Rattle.fmt.proofs.write.Goals as goal
@@ -18,4 +17,5 @@ returns-then-out-size c =
 
 pub returns : goal.returns
 returns c =
-    wrote _ _ (can c) _ (omega arith) c.store.ensures
+    let can : writable c.args.format ≡ true = sym c.is_writable.ensures ∙ c.if-not-is_writable.false in
+    wrote _ _ can _ (omega arith) c.store.ensures
