@@ -5,7 +5,7 @@ use mathlib.Core.List.{List, [], ◌∷◌, ◌++◌, append_assoc, append-nil}
 use Prim.Native.Nat.{ℕ, ◌+◌, ◌-◌, ◌%◌, ◌≤◌}
 use native.Mathlib.Omega.{arith}
 use lib.ListN.{length, take, drop, set, replicate, length-append, length-take, length-drop, drop_of_length-le}
-use lib.Seq.{sets, sets-eq, take-length, drop-drop}
+use lib.Seq.{sets, sets-eq, drop-drop}
 use Rattle.le.specs.Number.{bytes, stored}
 use Rattle.le.proofs.Laws.{bytes-length, sets-append, stored-then}
 use Rattle.chunk.specs.Names.{WAVE}
@@ -41,7 +41,8 @@ module _ (out z bs : List ℕ) (at r : ℕ) (e : r ≡ at + length bs) (h : r �
   part_length : length part ≡ length bs
   part_length = simp (length-take, length-drop) (omega arith)
 
-  part-put : z ≡ bs → Puts bs at out (take at out ++ (z ++ drop (r - at) (drop at out))) r
+  -- copied there
+  pub part-put : z ≡ bs → Puts bs at out (take at out ++ (z ++ drop (r - at) (drop at out))) r
   part-put w =
       let k : at + (r - at) ≡ at + length bs = omega arith in
       record {
@@ -51,13 +52,6 @@ module _ (out z bs : List ℕ) (at r : ℕ) (e : r ≡ at + length bs) (h : r �
             ∙ sym (sets-eq bs out at (omega arith));
         next = e;
       }
-
-  -- copied there
-  pub part-copied : z ≡ take (length bs) bs ++ drop (length bs) part
-      → Puts bs at out (take at out ++ (z ++ drop (r - at) (drop at out))) r
-  part-copied w =
-      part-put
-      (w ∙ ap₂ (λ (a b : List ℕ). a ++ b) (take-length bs) (drop_of_length-le part {i = length bs} (omega (arith, part_length))) ∙ append-nil bs)
 
   -- or stored, where there is room for them
   pub part-stored : z ≡ output_of part (fitting part (given bs))
