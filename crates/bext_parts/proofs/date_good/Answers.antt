@@ -1,13 +1,9 @@
 -- `bext_parts::date_good` meets its contract: the flag of each test is the rule so far.
-use mathlib.Core.Path.{◌≡◌, refl}
-use mathlib.Core.Bool.{Bool, ◌&&◌}
-use mathlib.Core.List.{List}
-use mathlib.Core.Logic.{⊎_elim}
-use Prim.Native.Nat.{ℕ}
-use lib.ListN.{get_or}
+use Rattle.std.proofs.Common.{ℕ, Bool, List, ◌&&◌, ◌≡◌, refl, get_or}
 use Rattle.bext_parts.specs.Parts.{two_digits, is_separator, date_good}
 use Rattle.bext_parts.proofs.Tests.{and_first, and_second}
 use Rattle.bext_parts.proofs.date_good.Goals as goal
+use Rattle.bext_parts.proofs.date_good.Goals.{then-two_digits, else-two_digits, then-two_digits-2, else-two_digits-2, then-separator, else-separator, then-two_digits-3, else-two_digits-3}
 
 -- the rule as far as each test
 abbrev upto2 : List ℕ → Bool
@@ -25,41 +21,49 @@ upto5 d = upto4 d && is_separator (get_or d 7 0)
 pub returns-then-separator-2 : goal.returns-then-separator-2
 unfolding date_good
 returns-then-separator-2 c =
-    let flag2 : c.if-two_digits.if2 ≡ upto2 c.args.d.now = ⊎_elim
-    (λ w. and_second _ _ c.two_digits.ensures w.0.taken w.2 w.1.ensures)
-    (λ w. and_first _ _ c.two_digits.ensures w.0.left w.1)
-    c.if-two_digits.branch in
-    let flag3 : c.if-two_digits-2.if3 ≡ upto3 c.args.d.now = ⊎_elim
-    (λ w. and_second _ _ flag2 w.0.taken w.3 w.2.ensures)
-    (λ w. and_first _ _ flag2 w.0.left w.1)
-    c.if-two_digits-2.branch in
-    let flag4 : c.if-separator.if4 ≡ upto4 c.args.d.now = ⊎_elim
-    (λ w. and_second _ _ flag3 w.0.taken w.2 w.1.ensures)
-    (λ w. and_first _ _ flag3 w.0.left w.1)
-    c.if-separator.branch in
-    let flag5 : c.if-two_digits-3.if5 ≡ upto5 c.args.d.now = ⊎_elim
-    (λ w. and_second _ _ flag4 w.0.taken w.3 w.2.ensures)
-    (λ w. and_first _ _ flag4 w.0.left w.1)
-    c.if-two_digits-3.branch in
+    let flag2 : c.if-two_digits.value ≡ upto2 c.args.d.now =
+    elim c.if-two_digits.branch [
+      | then-two_digits w ↦ and_second _ _ c.two_digits.ensures w.if-two_digits.true w.value-is w.two_digits-then-two_digits.ensures
+      | else-two_digits w ↦ and_first _ _ c.two_digits.ensures w.if-two_digits.false w.value-is
+    ] in
+    let flag3 : c.if-two_digits-2.value ≡ upto3 c.args.d.now =
+    elim c.if-two_digits-2.branch [
+      | then-two_digits-2 w ↦ and_second _ _ flag2 w.if-two_digits-2.true w.value-is w.separator.ensures
+      | else-two_digits-2 w ↦ and_first _ _ flag2 w.if-two_digits-2.false w.value-is
+    ] in
+    let flag4 : c.if-separator.value ≡ upto4 c.args.d.now =
+    elim c.if-separator.branch [
+      | then-separator w ↦ and_second _ _ flag3 w.if-separator.true w.value-is w.two_digits-then-separator.ensures
+      | else-separator w ↦ and_first _ _ flag3 w.if-separator.false w.value-is
+    ] in
+    let flag5 : c.if-two_digits-3.value ≡ upto5 c.args.d.now =
+    elim c.if-two_digits-3.branch [
+      | then-two_digits-3 w ↦ and_second _ _ flag4 w.if-two_digits-3.true w.value-is w.separator-then-two_digits-3.ensures
+      | else-two_digits-3 w ↦ and_first _ _ flag4 w.if-two_digits-3.false w.value-is
+    ] in
     and_second _ _ flag5 c.if-separator-2.true refl c.two_digits-then-separator-2.ensures
 
 pub returns-else-separator-2 : goal.returns-else-separator-2
 unfolding date_good
 returns-else-separator-2 c =
-    let flag2 : c.if-two_digits.if2 ≡ upto2 c.args.d.now = ⊎_elim
-    (λ w. and_second _ _ c.two_digits.ensures w.0.taken w.2 w.1.ensures)
-    (λ w. and_first _ _ c.two_digits.ensures w.0.left w.1)
-    c.if-two_digits.branch in
-    let flag3 : c.if-two_digits-2.if3 ≡ upto3 c.args.d.now = ⊎_elim
-    (λ w. and_second _ _ flag2 w.0.taken w.3 w.2.ensures)
-    (λ w. and_first _ _ flag2 w.0.left w.1)
-    c.if-two_digits-2.branch in
-    let flag4 : c.if-separator.if4 ≡ upto4 c.args.d.now = ⊎_elim
-    (λ w. and_second _ _ flag3 w.0.taken w.2 w.1.ensures)
-    (λ w. and_first _ _ flag3 w.0.left w.1)
-    c.if-separator.branch in
-    let flag5 : c.if-two_digits-3.if5 ≡ upto5 c.args.d.now = ⊎_elim
-    (λ w. and_second _ _ flag4 w.0.taken w.3 w.2.ensures)
-    (λ w. and_first _ _ flag4 w.0.left w.1)
-    c.if-two_digits-3.branch in
+    let flag2 : c.if-two_digits.value ≡ upto2 c.args.d.now =
+    elim c.if-two_digits.branch [
+      | then-two_digits w ↦ and_second _ _ c.two_digits.ensures w.if-two_digits.true w.value-is w.two_digits-then-two_digits.ensures
+      | else-two_digits w ↦ and_first _ _ c.two_digits.ensures w.if-two_digits.false w.value-is
+    ] in
+    let flag3 : c.if-two_digits-2.value ≡ upto3 c.args.d.now =
+    elim c.if-two_digits-2.branch [
+      | then-two_digits-2 w ↦ and_second _ _ flag2 w.if-two_digits-2.true w.value-is w.separator.ensures
+      | else-two_digits-2 w ↦ and_first _ _ flag2 w.if-two_digits-2.false w.value-is
+    ] in
+    let flag4 : c.if-separator.value ≡ upto4 c.args.d.now =
+    elim c.if-separator.branch [
+      | then-separator w ↦ and_second _ _ flag3 w.if-separator.true w.value-is w.two_digits-then-separator.ensures
+      | else-separator w ↦ and_first _ _ flag3 w.if-separator.false w.value-is
+    ] in
+    let flag5 : c.if-two_digits-3.value ≡ upto5 c.args.d.now =
+    elim c.if-two_digits-3.branch [
+      | then-two_digits-3 w ↦ and_second _ _ flag4 w.if-two_digits-3.true w.value-is w.separator-then-two_digits-3.ensures
+      | else-two_digits-3 w ↦ and_first _ _ flag4 w.if-two_digits-3.false w.value-is
+    ] in
     and_first _ _ flag5 c.if-separator-2.false refl

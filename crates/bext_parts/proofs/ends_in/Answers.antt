@@ -1,6 +1,6 @@
 -- `bext_parts::ends_in` meets its contract: the flag says whether the run ends within the bytes passed.
 use mathlib.Core.Path.{◌≡◌, sym, ap, ◌∙◌}
-use Prim.Native.Nat.{◌≤◌, ◌-◌, ◌+◌}
+use Prim.Native.Nat.{◌+◌}
 use native.Mathlib.Omega.{arith}
 use lib.Dec.{ltb}
 use borrow.Author.Tests.{le-ltb}
@@ -12,22 +12,6 @@ pub loop-j-init : goal.loop-j-init
 loop-j-init c =
     let a = c.args in
     (omega arith, sym (le-ltb (run_end a.zeros a.s.now a.at) (a.at + 0) (omega (arith, run-from a.zeros a.s.now a.at))))
-
--- TODO no such goal
--- add-met : tie.Need-overflow-add-met invariant-loop decreases-loop
--- add-met c = omega arith
-
-pub bounds-s-at : goal.bounds-s-at
-bounds-s-at c =
-    omega arith
-
--- TODO no such goal
--- add-j : tie.Need-overflow-add-j invariant-loop decreases-loop
--- add-j c = omega arith
-
-pub loop-j-smaller : goal.loop-j-smaller
-loop-j-smaller c =
-    omega arith
 
 pub loop-j-preserved : goal.loop-j-preserved
 loop-j-preserved c =

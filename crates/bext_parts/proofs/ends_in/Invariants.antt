@@ -1,10 +1,8 @@
-use mathlib.Core.Path.{◌≡◌, sym, ap, ◌∙◌}
+-- The flag says whether the run ends within the j bytes passed.
+use mathlib.Core.Path.{◌≡◌}
 use Prim.Native.Nat.{◌≤◌, ◌-◌, ◌+◌}
-use native.Mathlib.Omega.{arith}
 use lib.Dec.{ltb}
-use borrow.Author.Tests.{le-ltb}
 use Rattle.bext_parts.specs.Code.{run_end}
-use Rattle.bext_parts.proofs.Runs.{run-from, run_ends}
 use Rattle.bext_parts.proofs.ends_in.Given as goal
 
 abbrev pub invariant-loop-j : goal.invariant-loop-j

@@ -1,10 +1,8 @@
 -- `bext_parts::near_end` meets its contract: the run from here ends where the run from the place does.
-use mathlib.Core.Path.{◌≡◌, refl, ◌∙◌}
-use Prim.Native.Nat.{◌≤◌, ◌-◌, ◌+◌}
+use mathlib.Core.Path.{refl, ◌∙◌}
+use Prim.Native.Nat.{◌+◌}
 use native.Mathlib.Omega.{arith}
 use borrow.Author.Tests.{ltb-true, ltb-false}
-use lib.ListN.{length}
-use Rattle.bext_parts.specs.Code.{run_end}
 use Rattle.bext_parts.proofs.Runs.{run-from, run-within, run-passed}
 use Rattle.bext_parts.proofs.near_end.Goals as goal
 
@@ -12,28 +10,12 @@ pub loop-i-init : goal.loop-i-init
 loop-i-init c =
     (omega arith, refl)
 
--- TODO no such goal
--- sub-loop : tie.Need-overflow-sub-loop invariant-loop decreases-loop
--- sub-loop c = omega arith
-
-pub ends_in-requires : goal.ends_in-requires
-ends_in-requires c =
-    omega arith
-
 pub returns-then-ends_in : goal.returns-then-ends_in
 returns-then-ends_in c =
     let a = c.args in
     let p = c.loop-i in
     let e = rw c.ends_in.ensures at c.if-ends_in.true in
     omega (arith, ltb-true, run-from a.zeros a.s.now p.i)
-
--- TODO no such goal
--- add-i : tie.Need-overflow-add-i invariant-loop decreases-loop
--- add-i c = omega arith
-
-pub loop-i-smaller : goal.loop-i-smaller
-loop-i-smaller c =
-    omega arith
 
 pub loop-i-preserved : goal.loop-i-preserved
 loop-i-preserved c =

@@ -1,10 +1,8 @@
-use mathlib.Core.Path.{◌≡◌, refl, ◌∙◌}
-use Prim.Native.Nat.{◌≤◌, ◌-◌, ◌+◌}
-use native.Mathlib.Omega.{arith}
-use borrow.Author.Tests.{ltb-true, ltb-false}
+-- The run from here ends where the run from the place does.
+use mathlib.Core.Path.{◌≡◌}
+use Prim.Native.Nat.{◌≤◌, ◌-◌}
 use lib.ListN.{length}
 use Rattle.bext_parts.specs.Code.{run_end}
-use Rattle.bext_parts.proofs.Runs.{run-from, run-within, run-passed}
 use Rattle.bext_parts.proofs.near_end.Given as goal
 
 abbrev pub invariant-loop-i : goal.invariant-loop-i

@@ -1,7 +1,7 @@
 -- `bext_parts::separator` meets its contract: the byte is one of the five, or none of them.
 use mathlib.Core.Path.{◌≡◌, sym, refl, ap, ◌∙◌}
 use mathlib.Core.Bool.{Bool, true, false}
-use mathlib.Core.Logic.{inl, inr, ⊎_elim}
+use mathlib.Core.Logic.{⊎_elim}
 use Prim.Native.Nat.{ℕ, ◌≤◌, ◌<◌}
 use lib.Dec.{eqb}
 use native.Mathlib.Omega.{arith}
@@ -24,14 +24,10 @@ beside b l h = which (eqb b 0x2D) refl
     which false e = equal b 0x2E refl (omega (arith, eqb-false b 0x2D e))
 
 pub returns-in_default : goal.returns-in_default
-returns-in_default c =
-    let n = c.in_default.in_default-own.rest.1 in
-    sym (no-separator _ (λ e. omega arith) (λ e. n (inr (inr e))) (λ e. n (inr (inl e))) (λ e. n (inl e)) (λ e. omega arith))
+returns-in_default c = sym (no-separator _ (λ e. omega arith) (λ e. grind arith) (λ e. grind arith) (λ e. grind arith) (λ e. omega arith))
 
 pub returns-in_default-2 : goal.returns-in_default-2
-returns-in_default-2 c =
-    let n = c.in_default.in_default-own.rest.1 in
-    sym (no-separator _ (λ e. omega arith) (λ e. n (inr (inr e))) (λ e. n (inr (inl e))) (λ e. n (inl e)) (λ e. omega arith))
+returns-in_default-2 c = sym (no-separator _ (λ e. omega arith) (λ e. grind arith) (λ e. grind arith) (λ e. grind arith) (λ e. omega arith))
 
 pub returns-in-45 : goal.returns-in-45
 unfolding is_separator
@@ -40,5 +36,4 @@ returns-in-45 c =
     ⊎_elim (equal b 0x20 refl) (λ w. ⊎_elim (equal b 0x3A refl) (equal b 0x5F refl) w) c.in-45.is
 
 pub returns-in-45-2 : goal.returns-in-45-2
-returns-in-45-2 c =
-    beside _ c.in-45.if-b-lt45-own.false c.in-45.if-b-lt47-own.true
+returns-in-45-2 c = beside _ (omega arith) (omega arith)

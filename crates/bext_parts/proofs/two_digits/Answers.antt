@@ -2,7 +2,7 @@
 use mathlib.Core.Path.{◌≡◌, ◌∙◌, sym}
 use mathlib.Core.Bool.{true}
 use Prim.Native.Nat.{◌+◌}
-use borrow.Author.Tests.{le-leb, lt-leb, not-true, not-false}
+use borrow.Author.Tests.{le-leb, lt-leb}
 use native.Mathlib.Omega.{arith}
 use lib.ListN.{get_or}
 use Rattle.bext_parts.specs.Parts.{is_digit}
@@ -22,21 +22,21 @@ returns-then-not-digit-2 c =
     (sym c.digit.ensures ∙ c.if-not-digit.false)
     (sym c.digit-2.ensures ∙ c.if-not-digit-2.true))
 
--- TODO no such goal
--- sub-n : tie.Need-overflow-sub-n
--- sub-n c = digit_low _ (first-digit c)
+pub overflow_sub-n : goal.overflow_sub-n
+overflow_sub-n c =
+    digit_low _ (sym c.digit.ensures ∙ c.if-not-digit.false)
 
--- TODO no such goal
--- mul-n : tie.Need-overflow-mul-n
--- mul-n c = omega (arith, digit-high _ (first-digit c))
+pub overflow_mul-n : goal.overflow_mul-n
+overflow_mul-n c =
+    omega (arith, digit-high _ (sym c.digit.ensures ∙ c.if-not-digit.false))
 
--- TODO no such goal
--- sub-n-2 : tie.Need-overflow-sub-n-2
--- sub-n-2 c = digit_low _ (second-digit c)
+pub overflow_sub-n-2 : goal.overflow_sub-n-2
+overflow_sub-n-2 c =
+    digit_low _ (sym c.digit-2.ensures ∙ c.if-not-digit-2.false)
 
--- TODO no such goal
--- add-n : tie.Need-overflow-add-n
--- add-n c = omega (arith, digit-high _ (first-digit c), digit-high _ (second-digit c))
+pub overflow_add-n : goal.overflow_add-n
+overflow_add-n c =
+    omega (arith, digit-high _ (sym c.digit.ensures ∙ c.if-not-digit.false), digit-high _ (sym c.digit-2.ensures ∙ c.if-not-digit-2.false))
 
 pub returns-then-low-n : goal.returns-then-low-n
 returns-then-low-n c =

@@ -22,9 +22,10 @@ near_end-k-requires c =
     let within : run_end true c.args.s.now c.args.at ≤ length c.args.s.now = run-within true c.args.s.now c.args.at (omega arith) in
     omega (arith, within)
 
--- TODO no such goal
--- sub-if2 : tie.Need-overflow-sub-if2
--- sub-if2 c = omega (arith, within c.before.before)
+pub overflow_sub-s-2 : goal.overflow_sub-s-2
+overflow_sub-s-2 c =
+    let within : run_end true c.args.s.now c.args.at ≤ length c.args.s.now = run-within true c.args.s.now c.args.at (omega arith) in
+    omega (arith, within)
 
 pub returns-then-s-k-lt8 : goal.returns-then-s-k-lt8
 returns-then-s-k-lt8 c =
