@@ -1,9 +1,9 @@
 -- `words::answer` meets its contract: what has been stored is the values passed.
-use mathlib.Core.Path.{◌≡◌, ◌∙◌, ap, refl, sym}
-use Prim.Native.Nat.{ℕ, ◌≤◌, ◌-◌}
+use mathlib.Core.Path.{◌∙◌, ap, refl, sym}
+use Prim.Native.Nat.{ℕ}
 use native.Mathlib.Nat.{zero-add}
 use native.Mathlib.Omega.{arith}
-use lib.ListN.{length, set, take, get_or}
+use lib.ListN.{set, take, get_or}
 use lib.Seq.{sets, length-sets, take_all}
 use Rattle.chunk.proofs.Outputs.{put-more}
 use Rattle.words.proofs.Answered.{short, answered}
@@ -26,10 +26,6 @@ bounds-words-i c =
     let a = c.args in
     let l = c.loop-i in
     rw (l.invariant.1, length-sets a.words.now 0 (take l.i a.values.now)) (omega (arith, c.if-words-values.false))
-
--- TODO no such goal
--- add-i : tie.Need-overflow-add-i invariant-loop decreases-loop
--- add-i c = omega arith
 
 pub loop-i-smaller : goal.loop-i-smaller
 loop-i-smaller c =

@@ -1,11 +1,6 @@
-use mathlib.Core.Path.{◌≡◌, ◌∙◌, ap, refl, sym}
-use Prim.Native.Nat.{ℕ, ◌≤◌, ◌-◌}
-use native.Mathlib.Nat.{zero-add}
-use native.Mathlib.Omega.{arith}
-use lib.ListN.{length, set, take, get_or}
-use lib.Seq.{sets, length-sets, take_all}
-use Rattle.chunk.proofs.Outputs.{put-more}
-use Rattle.words.proofs.Answered.{short, answered}
+-- The values below `i` have been stored.
+use Rattle.std.proofs.Common.{◌≡◌, ◌≤◌, ◌-◌, length, take}
+use Rattle.std.proofs.lemmas.List.Edits.{sets}
 use Rattle.words.proofs.answer.Given as goal
 
 abbrev pub invariant-loop-i : goal.invariant-loop-i

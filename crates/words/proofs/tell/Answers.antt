@@ -16,10 +16,9 @@ no_word [] (written.Bytes n) h = refl
 no_word [] (written.Refused r) h = refl
 no_word (v ∷ vs) x h = absurd (omega (arith, h))
 
--- TODO c.number_of_lem.ensures
 pub returns-then-written-eq0 : goal.returns-then-written-eq0
 returns-then-written-eq0 c =
-    record { number = c.number_of_lem.ensures; words = no_word _ _ c.if-written-eq0.true }
+    record { number = c.number_of.ensures; words = no_word _ _ c.if-written-eq0.true }
 
 pub returns : goal.returns
 returns c =

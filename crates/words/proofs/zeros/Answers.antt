@@ -1,9 +1,8 @@
 -- `words::zeros` meets its contract: what has been stored is so many zeros.
 use mathlib.Core.Path.{◌≡◌, ◌∙◌, ap, refl, sym}
-use Prim.Native.Nat.{◌≤◌, ◌-◌}
 use native.Mathlib.Nat.{zero-add}
 use native.Mathlib.Omega.{arith}
-use lib.ListN.{length, set, replicate}
+use lib.ListN.{set, replicate}
 use lib.Seq.{sets, length-sets}
 use Rattle.chunk.proofs.Outputs.{zero_more}
 use Rattle.words.proofs.Answered.{short, answered}
@@ -22,10 +21,6 @@ bounds-words-i c =
     let a = c.args in
     let l = c.loop-i in
     rw (l.invariant.1, length-sets a.words.now 0 (replicate l.i 0)) (omega (arith, c.if-words-n.false))
-
--- TODO no such goal
--- add-i : tie.Need-overflow-add-i invariant-loop decreases-loop
--- add-i c = omega arith
 
 pub loop-i-smaller : goal.loop-i-smaller
 loop-i-smaller c =
