@@ -1,16 +1,12 @@
--- The laws of an entry by value: one for each outcome, and that a part copied whole is the part.
--- Assumes nothing.
+-- The laws of an entry by value: one for each outcome.
 use mathlib.Core.Path.{◌≡◌, sym, ap, ap₂, ◌∙◌}
 use mathlib.Core.Bool.{Bool, true, false}
-use mathlib.Core.List.{List, ◌++◌, append-nil}
-use Prim.Native.Nat.{ℕ, ◌+◌, ◌≤◌}
-use native.Mathlib.Omega.{arith}
-use lib.ListN.{length, take, drop, drop_of_length-le}
-use lib.Seq.{take-length}
+use mathlib.Core.List.{List}
+use Prim.Native.Nat.{ℕ}
+use lib.ListN.{length}
 use borrow.Author.Tests.{eq-eqb, ne_eqb}
 use Rattle.le.specs.Number.{field, number}
 use Rattle.le.specs.Choice.{pick}
-use Rattle.le.proofs.Laws.{field-length}
 use Rattle.chna_entry.specs.declared.Entry.{Entry as Value}
 use Rattle.chna_entry.specs.Ids.{fits, UNUSED}
 use Rattle.chna_entry.specs.Entries.{unused, used, used_in, entry_in, whole_entry, value_of}
@@ -30,18 +26,6 @@ whole-unused e h u = whole e h ∙ ap (λ (b : Bool). pick b unused (used (used_
 whole-used : (e : List ℕ) → length e ≡ 40 → fits UNUSED e ≡ false → whole_entry e ≡ used (used_in e)
 unfolding entry_in pick
 whole-used e h u = whole e h ∙ ap (λ (b : Bool). pick b unused (used (used_in e))) u
-
--- a part copied to as many bytes
-pub part-copied : (k at : ℕ) (s to r : List ℕ) → at + k ≤ length s → length to ≡ k
-    → r ≡ take (length (take k (drop at s))) (take k (drop at s)) ++ drop (length (take k (drop at s))) to
-    → r ≡ field (length to) at s
-unfolding field
-part-copied k at s to r h l x =
-    let all : length to ≤ length (take k (drop at s)) = omega (arith, field-length k at s h) in
-    x
-    ∙ ap₂ (λ (a b : List ℕ). a ++ b) (take-length (take k (drop at s))) (drop_of_length-le to all)
-    ∙ append-nil (take k (drop at s))
-    ∙ ap (λ (n : ℕ). take n (drop at s)) (sym l)
 
 abbrev value : ℕ → List ℕ → List ℕ → List ℕ → Value
 value i x y z = record { used = true; index = i; uid = x; track = y; pack = z }

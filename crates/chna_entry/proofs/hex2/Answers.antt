@@ -1,6 +1,5 @@
 -- `chna_entry::hex2` meets its contract: two digits are a first and a second.
 use mathlib.Core.Path.{◌∙◌, sym}
-use borrow.Author.Tests.{not-true, not-false}
 use Rattle.chna_entry.proofs.Patterns.{no, yes, two-hex}
 use Rattle.chna_entry.proofs.hex2.Goals as goal
 

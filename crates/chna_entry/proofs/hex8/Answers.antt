@@ -1,7 +1,6 @@
 -- `chna_entry::hex8` meets its contract: its digits are 4 and 4.
 use mathlib.Core.Path.{◌∙◌, sym}
 use native.Mathlib.Omega.{arith}
-use borrow.Author.Tests.{not-true, not-false}
 use Rattle.chna_entry.specs.Code.{hexes}
 use Rattle.chna_entry.proofs.Patterns.{no, yes, fits-split}
 use Rattle.chna_entry.proofs.hex8.Goals as goal

@@ -5,7 +5,7 @@ use Prim.Native.Nat.{ℕ}
 use native.Mathlib.Omega.{arith}
 use lib.Dec.{eqb}
 use lib.ListN.{get_or}
-use borrow.Author.Tests.{eq-eqb, ne_eqb, not-true, not-false}
+use borrow.Author.Tests.{eq-eqb, ne_eqb}
 use Rattle.le.specs.Number.{Bytes, field}
 use Rattle.chna_entry.specs.Ids.{fits, TRACK, CHANNEL}
 use Rattle.chna_entry.proofs.Patterns.{both, no, yes, equal, unequal, picked, passed, reference-end, reference-tests}

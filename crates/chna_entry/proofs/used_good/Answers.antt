@@ -5,7 +5,7 @@ use native.Mathlib.Omega.{arith}
 use mathlib.Core.List.{List}
 use Prim.Native.Nat.{ℕ}
 use lib.Dec.{leb}
-use borrow.Author.Tests.{le-leb, lt-leb, not-true, not-false}
+use borrow.Author.Tests.{le-leb, lt-leb}
 use Rattle.le.specs.Number.{field, number}
 use Rattle.chna_entry.specs.Ids.{fits, UID, TRACK, CHANNEL, PACK, NOPACK}
 use Rattle.chna_entry.specs.Entries.{used_in, used_good}
