@@ -11,7 +11,6 @@ use Rattle.le.specs.Number.{field}
 use Rattle.chunk.specs.declared.Entry.{Entry}
 use Rattle.chunk.specs.declared.Refusal.{Refusal}
 use Rattle.chunk.specs.declared.Refusal.TheVariants.{RaggedAudio}
-use Rattle.chunk.specs.declared.Verdict.TheVariants.{Accepted, Refused}
 use Rattle.chunk.specs.Refusals.{Answer, refused, given, and_then}
 use Rattle.chunk.specs.Names.{FMT, DATA, FACT}
 use Rattle.chunk.specs.Tables.{count, find}
@@ -25,7 +24,6 @@ use Rattle.fmt.specs.Formats.{format_in, read_as}
 use Rattle.listing.specs.declared.Fact.{Fact}
 use Rattle.listing.specs.declared.Fact.TheVariants as fact
 use Rattle.listing.specs.declared.Listing as code
-use Rattle.listing.specs.declared.Listed.TheVariants as listed
 use Rattle.wave.specs.declared.judgement.Accepted as accepted
 use Rattle.wave.specs.declared.judgement.Examined.TheVariants as examined
 use Rattle.listing.specs.Listings.{Listing, listing}

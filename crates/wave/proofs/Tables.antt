@@ -25,8 +25,8 @@ laid-ends (next r l) = (r.place, laid-ends l)
 
 laid-later : {rule : Rule} {s : List ℕ} {at : ℕ} (xs : List Entry) (e : Entry) (ys : List Entry) → Laid rule s at (xs ++ e ∷ ys)
     → (f : Entry) → Memᴰ f ys → past e ≤ f.place - 8
-laid-later [] e ys (next r l) f m = omega (arith, (laid-lies l m).after)
-laid-later (x ∷ xs) e ys (next r l) f m = laid-later xs e ys l f m
+laid-later {at = at} [] e ys (next r l) f m = omega (arith, (laid-lies l m).after)
+laid-later {at = at} (x ∷ xs) e ys (next r l) f m = laid-later {at = past x} xs e ys l f m
 
 pub laid-first : {rule : Rule} {s : List ℕ} {at : ℕ} (rows : List Entry) → Laid rule s at rows → (at ≡ length s → ⊥)
     → (e : Entry) × (es : List Entry) × (rows ≡ e ∷ es) × Row rule s at e × Laid rule s (past e) es
