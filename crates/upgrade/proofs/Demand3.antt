@@ -21,7 +21,6 @@ use Rattle.wave.proofs.FirstHalf.{says-own, first-half}
 use Rattle.upgrade.specs.declared.Target.{Target}
 use Rattle.upgrade.specs.Upgrades.{patches, patched}
 use Rattle.upgrade.specs.Demand3.{Reserved, Upgraded, SecondHalf, Demand3}
-use Rattle.upgrade.proofs.Stores.{holds}
 use Rattle.upgrade.proofs.Takes.{take, Take}
 use Rattle.upgrade.proofs.Outcomes.{reserved-true, true-reserved, not-reserved, upgrade-unreserved, upgrade-given, upgrade-succeeded}
 use Rattle.upgrade.proofs.Upgraded.{take-upgraded}
