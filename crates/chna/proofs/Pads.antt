@@ -1,12 +1,12 @@
 -- The laws of pads: zeroing them one entry after the other, where they stand; in a payload; and at the start of an output.
 -- Assumes nothing.
 use mathlib.Core.Path.{◌≡◌, refl, sym, ap, ap₂, ◌∙◌}
-use mathlib.Core.List.{List, [], ◌∷◌, ◌++◌, append_assoc, append-nil}
+use mathlib.Core.List.{List, [], ◌∷◌, ◌++◌, append_assoc}
 use Prim.Native.Nat.{ℕ, zero, suc, ◌+◌, ◌-◌, ◌*◌, ◌/◌, ◌≤◌, ◌<◌}
 use native.Mathlib.Nat.{zero-add, suc-add}
 use native.Mathlib.Omega.{arith}
-use lib.ListN.{length, set, take, drop, length-set, length-append, length-drop, take-append-drop, drop_of_length-le}
-use lib.Seq.{take-length, take_all, set-append_left, length-take-le, take_at, drop_at, drop-drop}
+use lib.ListN.{length, set, take, drop, length-set, length-append, length-drop, take-append-drop}
+use lib.Seq.{set-append_left, length-take-le, take_at, drop_at, drop-drop}
 use Rattle.chunk.specs.Refusals.{given}
 use Rattle.chunk.specs.Writes.{fitting, output_of}
 use Rattle.chunk.proofs.Outputs.{no_room, room}
@@ -112,26 +112,24 @@ unfolding output_of
 copied-short p out h = ap (output_of out) (no_room (pads_zeroed p) out (omega (arith, zeroed-length p)))
 
 -- four bytes stored there, and entries copied behind them
-module _ (four s out stored copied : List ℕ) (n : length four ≡ 4) (e : stored ≡ four ++ drop 4 out)
-    (f : copied ≡ take (length s) s ++ drop (length s) (take (length stored - 4) (drop 4 stored))) where
-  laid : take 4 stored ++ (copied ++ drop (length stored - 4) (drop 4 stored)) ≡ four ++ s ++ drop (4 + length s) out
+module _ (four s out stored copied : List ℕ) (n : length four ≡ 4) (e : stored ≡ four ++ drop 4 out) (f : copied ≡ s) where
+  -- the output as the copy leaves it
+  abbrev after : List ℕ
+  after = take 4 stored ++ (copied ++ drop (4 + length s - 4) (drop 4 stored))
+
+  laid : after ≡ four ++ s ++ drop (4 + length s) out
   laid =
-      let rest : length (drop 4 stored) ≤ length stored - 4 = omega (arith, length-drop 4 stored) in
-      let behind : take (length stored - 4) (drop 4 stored) ≡ drop 4 out =
-      take_all (length stored - 4) (drop 4 stored) rest ∙ ap (drop 4) e ∙ drop_at four (drop 4 out) 4 n in
-      ap₂ (λ (a b : List ℕ). a ++ b)
-      (ap (take 4) e ∙ take_at four (drop 4 out) 4 n)
-      (ap₂ (λ (a b : List ℕ). a ++ b)
-      (f ∙ ap₂ (λ (a b : List ℕ). a ++ b) (take-length s) (ap (drop (length s)) behind ∙ drop-drop (length s) 4 out))
-      (drop_of_length-le (drop 4 stored) rest)
-      ∙ append-nil (s ++ drop (4 + length s) out))
+      let size : 4 + length s - 4 ≡ length s = omega arith in
+      let rest : drop (4 + length s - 4) (drop 4 stored) ≡ drop (4 + length s) out =
+      ap (λ (k : ℕ). drop k (drop 4 stored)) size
+      ∙ ap (drop (length s)) (ap (drop 4) e ∙ drop_at four (drop 4 out) 4 n)
+      ∙ drop-drop (length s) 4 out in
+      ap₂ (λ (a b : List ℕ). a ++ b) (ap (take 4) e ∙ take_at four (drop 4 out) 4 n) (ap₂ (λ (a b : List ℕ). a ++ b) f rest)
       ∙ sym (append_assoc four s (drop (4 + length s) out))
 
   -- and then their pads zeroed
-  pub laid-zeroed : (z : List ℕ)
-      → z ≡ pads_zeroed (take (4 + length s) (take 4 stored ++ (copied ++ drop (length stored - 4) (drop 4 stored))))
-      → z ++ drop (4 + length s) (take 4 stored ++ (copied ++ drop (length stored - 4) (drop 4 stored)))
-      ≡ four ++ pads_off s ++ drop (4 + length s) out
+  pub laid-zeroed : (z : List ℕ) → z ≡ pads_zeroed (take (4 + length s) after)
+      → z ++ drop (4 + length s) after ≡ four ++ pads_off s ++ drop (4 + length s) out
   unfolding pads_zeroed
   laid-zeroed z g =
       zeroed-front (4 + length s) (four ++ s) (drop (4 + length s) out) _ z (omega (arith, length-append four s)) laid g

@@ -1,5 +1,4 @@
 -- `chna::with_bit` meets its contract: a 1 moved by fewer than 64 places loses nothing.
--- Assumes nothing.
 use mathlib.Core.Path.{◌∙◌, ap}
 use Prim.Native.Nat.{◌^◌}
 use native.Mathlib.Nat.{one-mul}
@@ -7,16 +6,8 @@ use native.Mathlib.Omega.{arith}
 use lib.Bits.{bit_or}
 use lib.Dec.{lit<}
 use lib.Pow.{shl_exact}
-use borrow.Author.Rules.{rules}
-use Rattle.chna.proofs.with_bit.Statement.{statement}
-use Rattle.chna.proofs.with_bit.Tie as tie
+use Rattle.chna.proofs.with_bit.Goals as goal
 
-shl-result : tie.Need-overflow-shl-result
-shl-result c = search rules
-
-returns : tie.Need-returns
+pub returns : goal.returns
 returns c =
     ap (bit_or c.args.word) (shl_exact {a = 1} 1 c.args.bit 64 (lit< tt) (omega arith) ∙ one-mul (2 ^ c.args.bit))
-
-pub with-bit-spec : {M : Type 1} → statement M
-with-bit-spec = tie.close (tie.spec shl-result returns)
