@@ -10,184 +10,187 @@ ghost use Rattle.std.specs.Prelude.{◌+◌, ◌≤◌, length};
 use chunk::Verdict;
 use samples::Samples;
 use script::{Sign, State};
+use std::io::{self, Read};
 use upgrade::Target;
 
-fn text(s: &[u8]) {
-    io::write_all(1, s);
+fn text(rt: &impl Print, s: &[u8]) -> io::Result<()> {
+    rt.write_all(s)
 }
 
 // A number after a space.
-fn next(n: u64) {
-    text(b" ");
-    io::print_decimal(1, n);
+fn next(rt: &impl Print, n: u64) -> io::Result<()> {
+    text(rt, b" ")?;
+    rt.print(n)
 }
 
 // The four bytes of a name, after a space.
-fn name(n: u64) {
+fn name(rt: &impl Print, n: u64) -> io::Result<()> {
     let mut five = *b"     ";
     le::store4(&mut five, 1, n);
-    text(&five);
+    text(rt, &five)
 }
 
-fn verdict(v: Verdict) {
-    next(v.number() as u64);
+fn verdict(rt: &impl Print, v: Verdict) -> io::Result<()> {
+    next(rt, v.number() as u64)
 }
 
 // A row of a table: name, place and size, and the number of the size's source where that isn't the chunk's own field.
-fn row(words: &[u64], at: usize)
+fn row(rt: &impl Print, words: &[u64], at: usize) -> io::Result<()>
     requires { at ≤ 256 }
 {
     if at + 3 < words.len() {
-        name(words[at]);
-        next(words[at + 1]);
-        next(words[at + 2]);
+        name(rt, words[at])?;
+        next(rt, words[at + 1])?;
+        next(rt, words[at + 2])?;
         let source = words[at + 3];
         if source != 0 {
-            text(b" from");
-            next(source);
+            text(rt, b" from")?;
+            next(rt, source)?;
         }
     }
+    Ok(())
 }
 
 // Up to eight rows of a table.
-fn rows(words: &[u64], count: u64) {
+fn rows(rt: &impl Print, words: &[u64], count: u64) -> io::Result<()> {
     let mut i: usize = 0;
     while i < 8 {
         if (i as u64) < count {
-            row(words, 1 + 4 * i);
+            row(rt, words, 1 + 4 * i)?;
         }
         i += 1;
     }
+    Ok(())
 }
 
 // A table: its rows, or how many there are where they are more than eight.
-fn table(words: &[u64]) {
+fn table(rt: &impl Print, words: &[u64]) -> io::Result<()> {
     if words.len() == 0 {
-        return;
+        return Ok(());
     }
     let count = words[0];
     if 8 < count {
-        text(b" of");
-        next(count);
+        text(rt, b" of")?;
+        next(rt, count)
     } else {
-        rows(words, count);
+        rows(rt, words, count)
     }
 }
 
 // How a walk of the headers ended, and its table.
-fn walked(label: &[u8], v: Verdict, words: &[u64]) {
-    text(label);
-    verdict(v);
-    table(words);
+fn walked(rt: &impl Print, label: &[u8], v: Verdict, words: &[u64]) -> io::Result<()> {
+    text(rt, label)?;
+    verdict(rt, v)?;
+    table(rt, words)
 }
 
-fn scan(file: &[u8]) {
+fn scan(rt: &impl Print, file: &[u8]) -> io::Result<()> {
     let t = wave::scan(file);
     let words = t.table.words;
     let v = t.verdict;
-    walked(b": scan", v, &words);
+    walked(rt, b": scan", v, &words)
 }
 
-fn walk(file: &[u8]) {
+fn walk(rt: &impl Print, file: &[u8]) -> io::Result<()> {
     let t = wave::walk32(file);
     let words = t.table.words;
     let v = t.verdict;
-    walked(b"; walk", v, &words);
+    walked(rt, b"; walk", v, &words)
 }
 
-fn count(file: &[u8]) {
-    text(b"; count");
+fn count(rt: &impl Print, file: &[u8]) -> io::Result<()> {
+    text(rt, b"; count")?;
     match samples::sample_count(file) {
-        Samples::Count(n) => next(n),
-        Samples::None => text(b" none"),
+        Samples::Count(n) => next(rt, n),
+        Samples::None => text(rt, b" none"),
         Samples::Refused(r) => {
-            text(b" refused");
-            next(r.number() as u64);
+            text(rt, b" refused")?;
+            next(rt, r.number() as u64)
         }
     }
 }
 
 // A line: what scan, walk and sample count answer of the first n bytes, and an upgrade of them, which is then made.
-fn all(whole: &mut [u8], n: usize, target: Target) {
+fn all(rt: &impl Print, whole: &mut [u8], n: usize, target: Target) -> io::Result<()> {
     if whole.len() < n {
-        return;
+        return Ok(());
     }
     let file = &mut whole[..n];
-    scan(file);
-    walk(file);
-    count(file);
-    text(b"; upgrade");
-    verdict(upgrade::upgrade(file, target));
-    text(b"\n");
+    scan(rt, file)?;
+    walk(rt, file)?;
+    count(rt, file)?;
+    text(rt, b"; upgrade")?;
+    verdict(rt, upgrade::upgrade(file, target))?;
+    text(rt, b"\n")
 }
 
 // The numbers of ds64.
-fn numbers(file: &[u8]) {
+fn numbers(rt: &impl Print, file: &[u8]) -> io::Result<()> {
     if file.len() < 48 {
-        return;
+        return Ok(());
     }
-    next(le::read8(file, 20));
-    next(le::read8(file, 28));
-    next(le::read8(file, 36));
-    next(le::read4(file, 44));
+    next(rt, le::read8(file, 20))?;
+    next(rt, le::read8(file, 28))?;
+    next(rt, le::read8(file, 36))?;
+    next(rt, le::read4(file, 44))
 }
 
 // A name, and the number after it.
-fn header(file: &[u8], at: usize)
+fn header(rt: &impl Print, file: &[u8], at: usize) -> io::Result<()>
     requires { at + 8 ≤ length file.now }
 {
-    name(le::read4(file, at));
-    next(le::read4(file, at + 4));
+    name(rt, le::read4(file, at))?;
+    next(rt, le::read4(file, at + 4))
 }
 
 // A line: the form's name and field, the first chunk's name and size, and ds64's four numbers.
-fn head(file: &[u8]) {
+fn head(rt: &impl Print, file: &[u8]) -> io::Result<()> {
     if file.len() < 20 {
-        return;
+        return Ok(());
     }
-    text(b":");
-    header(file, 0);
-    text(b",");
-    header(file, 12);
-    text(b":");
-    numbers(file);
-    text(b"\n");
+    text(rt, b":")?;
+    header(rt, file, 0)?;
+    text(rt, b",")?;
+    header(rt, file, 12)?;
+    text(rt, b":")?;
+    numbers(rt, file)?;
+    text(rt, b"\n")
 }
 
 // A line: a number of four bytes.
-fn field(file: &[u8], at: usize) {
+fn field(rt: &impl Print, file: &[u8], at: usize) -> io::Result<()> {
     if file.len() < 4 {
-        return;
+        return Ok(());
     }
     if file.len() - 4 < at {
-        return;
+        return Ok(());
     }
-    text(b":");
-    next(le::read4(file, at));
-    text(b"\n");
+    text(rt, b":")?;
+    next(rt, le::read4(file, at))?;
+    text(rt, b"\n")
 }
 
 // A command that is none of the script's, after the number n.
-fn command(b: u8, n: usize, file: &mut [u8]) {
+fn command(rt: &impl Print, b: u8, n: usize, file: &mut [u8]) -> io::Result<()> {
     match b {
-        b'$' => all(file, n, Target::Rf64),
-        b'%' => all(file, n, Target::Bw64),
-        b'?' => head(file),
-        b'\'' => field(file, n),
-        _ => {}
+        b'$' => all(rt, file, n, Target::Rf64),
+        b'%' => all(rt, file, n, Target::Bw64),
+        b'?' => head(rt, file),
+        b'\'' => field(rt, file, n),
+        _ => Ok(()),
     }
 }
 
 // What a script leaves to the program at a character.
-fn act(sign: Sign, b: u8, n: u64, file: &mut [u8]) {
+fn act(rt: &impl Print, sign: Sign, b: u8, n: u64, file: &mut [u8]) -> io::Result<()> {
     match sign {
-        Sign::Print => text(&[b]),
-        Sign::Own => command(b, n as usize, file),
-        _ => {}
+        Sign::Print => text(rt, &[b]),
+        Sign::Own => command(rt, b, n as usize, file),
+        _ => Ok(()),
     }
 }
 
-fn run(input: &[u8]) {
+fn run(rt: &impl Print, input: &[u8]) -> io::Result<()> {
     let mut file = [0u8; 1024];
     let mut kept = [0u8; 1024];
     let mut s = State::start();
@@ -195,14 +198,15 @@ fn run(input: &[u8]) {
     while i < input.len() {
         let b = input[i];
         let sign = s.sign(b);
-        act(sign, b, s.n, &mut file);
+        act(rt, sign, b, s.n, &mut file)?;
         s = s.after(sign, &mut file, &mut kept);
         i += 1;
     }
+    Ok(())
 }
 
-fn main() {
-    let mut buf = io::large_buffer();
-    let n = io::read_full(0, &mut buf);
-    run(&buf[..n]);
+fn main(rt: HostRuntime) -> io::Result<()> {
+    let mut input = Vec::new(rt.alloc());
+    rt.reader().read_to_end(&mut input)?;
+    run(&rt, &input)
 }

@@ -18,101 +18,103 @@ use bext::Bext;
 use chunk::{Refusal, Written};
 use fmt::Format;
 use script::{Sign, State, first, part};
+use std::io::{self, Read};
 
-fn text(s: &[u8]) {
-    io::write_all(1, s);
+fn text(rt: &impl Print, s: &[u8]) -> io::Result<()> {
+    rt.write_all(s)
 }
 
 // A number after a space.
-fn next(n: u64) {
-    text(b" ");
-    io::print_decimal(1, n);
+fn next(rt: &impl Print, n: u64) -> io::Result<()> {
+    text(rt, b" ")?;
+    rt.print(n)
 }
 
-fn refused(r: Refusal) {
-    next(r.number() as u64);
+fn refused(rt: &impl Print, r: Refusal) -> io::Result<()> {
+    next(rt, r.number() as u64)
 }
 
 // What a writer answers. Gives the number of bytes that it wrote, 0 where it refused.
-fn answer(w: Written) -> usize {
+fn answer(rt: &impl Print, w: Written) -> io::Result<usize> {
     match w {
         Written::Refused(r) => {
-            refused(r);
-            0
+            refused(rt, r)?;
+            Ok(0)
         }
         Written::Bytes(k) => {
-            next(k);
-            k as usize
+            next(rt, k)?;
+            Ok(k as usize)
         }
     }
 }
 
 // Whether some bytes are those that they were.
-fn compared(now: &[u8], before: &[u8]) {
-    if check::same(now, before) {
-        text(b" same");
+fn compared(rt: &impl Print, now: &[u8], before: &[u8]) -> io::Result<()> {
+    if now == before {
+        text(rt, b" same")
     } else {
-        text(b" changed");
+        text(rt, b" changed")
     }
 }
 
 // What a writer answers, and whether it wrote the bytes that were read.
-fn written(w: Written, out: &[u8], payload: &[u8]) {
-    text(b"; written");
-    let n = answer(w);
+fn written(rt: &impl Print, w: Written, out: &[u8], payload: &[u8]) -> io::Result<()> {
+    text(rt, b"; written")?;
+    let n = answer(rt, w)?;
     if n == 0 {
-        return;
+        return Ok(());
     }
-    compared(first(out, n), payload);
+    compared(rt, first(out, n), payload)
 }
 
 // What a writer answers to an output that is too short.
-fn short(w: Written) {
-    text(b", short");
-    answer(w);
+fn short(rt: &impl Print, w: Written) -> io::Result<()> {
+    text(rt, b", short")?;
+    answer(rt, w)?;
+    Ok(())
 }
 
 // The fields of fmt.
-fn format(r: Format) {
-    text(b" 0");
-    next(r.size);
-    next(r.tag);
-    next(r.channels);
-    next(r.rate);
-    next(r.byterate);
-    next(r.block);
-    next(r.bits);
-    next(r.valid);
-    next(r.mask);
+fn format(rt: &impl Print, r: Format) -> io::Result<()> {
+    text(rt, b" 0")?;
+    next(rt, r.size)?;
+    next(rt, r.tag)?;
+    next(rt, r.channels)?;
+    next(rt, r.rate)?;
+    next(rt, r.byterate)?;
+    next(rt, r.block)?;
+    next(rt, r.bits)?;
+    next(rt, r.valid)?;
+    next(rt, r.mask)
 }
 
 // Writes the fmt that was read from a payload.
-fn write_fmt(r: Format, payload: &[u8]) {
-    let mut out = io::buffer();
+fn write_fmt(rt: &impl Print, r: Format, payload: &[u8]) -> io::Result<()> {
+    let mut out = [0u8; 4096];
     let w = fmt::write(r, &mut out);
-    written(w, &out, payload);
+    written(rt, w, &out, payload)?;
     let mut less = [0u8; 15];
-    short(fmt::write(r, &mut less));
+    short(rt, fmt::write(r, &mut less))
 }
 
 // Reads a payload as fmt, and writes the record.
-fn fmt(payload: &[u8]) {
-    text(b":");
+fn fmt(rt: &impl Print, payload: &[u8]) -> io::Result<()> {
+    text(rt, b":")?;
     match fmt::read(payload) {
-        fmt::Reading::Refused(r) => refused(r),
+        fmt::Reading::Refused(r) => refused(rt, r),
         fmt::Reading::Record(r) => {
-            format(r);
-            write_fmt(r, payload);
+            format(rt, r)?;
+            write_fmt(rt, r, payload)
         }
     }
 }
 
 // A payload that was written, read as fmt.
-fn back(payload: &[u8]) {
-    text(b", back");
+fn back(rt: &impl Print, payload: &[u8]) -> io::Result<()> {
+    text(rt, b", back")?;
     match fmt::read(payload) {
-        fmt::Reading::Refused(r) => refused(r),
-        fmt::Reading::Record(r) => format(r),
+        fmt::Reading::Refused(r) => refused(rt, r),
+        fmt::Reading::Record(r) => format(rt, r),
     }
 }
 
@@ -134,37 +136,38 @@ fn fields(file: &[u8]) -> Format
 }
 
 // Writes a fmt record and reads it back.
-fn given_fmt(file: &[u8])
+fn given_fmt(rt: &impl Print, file: &[u8]) -> io::Result<()>
     requires { 72 ≤ length file.now }
 {
-    let mut out = io::buffer();
+    let mut out = [0u8; 4096];
     let w = fmt::write(fields(file), &mut out);
-    text(b": written");
-    let n = answer(w);
+    text(rt, b": written")?;
+    let n = answer(rt, w)?;
     if 0 < n {
-        back(first(&out, n));
+        back(rt, first(&out, n))?;
     }
+    Ok(())
 }
 
-fn flag(b: bool) {
+fn flag(rt: &impl Print, b: bool) -> io::Result<()> {
     if b {
-        text(b" set");
+        text(rt, b" set")
     } else {
-        text(b" none");
+        text(rt, b" none")
     }
 }
 
 // The fields of bext.
-fn bext_fields(r: Bext) {
-    text(b" 0");
-    next(r.description_len);
-    next(r.originator_len);
-    next(r.reference_len);
-    flag(r.date_set);
-    flag(r.time_set);
-    next(r.timeref);
-    next(r.version);
-    next(r.history_len);
+fn bext_fields(rt: &impl Print, r: Bext) -> io::Result<()> {
+    text(rt, b" 0")?;
+    next(rt, r.description_len)?;
+    next(rt, r.originator_len)?;
+    next(rt, r.reference_len)?;
+    flag(rt, r.date_set)?;
+    flag(rt, r.time_set)?;
+    next(rt, r.timeref)?;
+    next(rt, r.version)?;
+    next(rt, r.history_len)
 }
 
 // The bext that was read from a payload, written.
@@ -183,29 +186,29 @@ fn bext_into(r: Bext, payload: &[u8], out: &mut [u8]) -> Written {
     )
 }
 
-fn write_bext(r: Bext, payload: &[u8]) {
-    let mut out = io::buffer();
+fn write_bext(rt: &impl Print, r: Bext, payload: &[u8]) -> io::Result<()> {
+    let mut out = [0u8; 4096];
     let w = bext_into(r, payload, &mut out);
-    written(w, &out, payload);
+    written(rt, w, &out, payload)?;
     let mut less = [0u8; 601];
-    short(bext_into(r, payload, &mut less));
+    short(rt, bext_into(r, payload, &mut less))
 }
 
 // Reads a payload as bext, and writes the record.
-fn bext(payload: &[u8]) {
-    text(b":");
+fn bext(rt: &impl Print, payload: &[u8]) -> io::Result<()> {
+    text(rt, b":")?;
     match bext::read(payload) {
-        bext::Reading::Refused(r) => refused(r),
+        bext::Reading::Refused(r) => refused(rt, r),
         bext::Reading::Record(r) => {
-            bext_fields(r);
-            write_bext(r, payload);
+            bext_fields(rt, r)?;
+            write_bext(rt, r, payload)
         }
     }
 }
 
 // Writes a bext with a description, the date and the time that stand in their places, and nothing else.
-fn given_bext(description: &[u8], file: &[u8]) {
-    let mut out = io::buffer();
+fn given_bext(rt: &impl Print, description: &[u8], file: &[u8]) -> io::Result<()> {
+    let mut out = [0u8; 4096];
     let none = first(file, 0);
     let date = part(file, 320, 10);
     let time = part(file, 330, 8);
@@ -221,19 +224,20 @@ fn given_bext(description: &[u8], file: &[u8]) {
         none,
         &mut out,
     );
-    text(b": written");
-    answer(w);
+    text(rt, b": written")?;
+    answer(rt, w)?;
+    Ok(())
 }
 
 // What is read as chna: track count, UID count, entries.
-fn chna_fields(payload: &[u8], channels: u64) {
+fn chna_fields(rt: &impl Print, payload: &[u8], channels: u64) -> io::Result<()> {
     match chna::read(payload, channels) {
-        chna::Reading::Refused(r) => refused(r),
+        chna::Reading::Refused(r) => refused(rt, r),
         chna::Reading::Record(r) => {
-            text(b" 0");
-            next(r.tracks);
-            next(r.uids);
-            next(r.entries);
+            text(rt, b" 0")?;
+            next(rt, r.tracks)?;
+            next(rt, r.uids)?;
+            next(rt, r.entries)
         }
     }
 }
@@ -251,98 +255,98 @@ fn chna_into(payload: &[u8], channels: u64, out: &mut [u8]) -> Written
     )
 }
 
-fn write_chna(payload: &[u8], channels: u64)
+fn write_chna(rt: &impl Print, payload: &[u8], channels: u64) -> io::Result<()>
     requires { 4 ≤ length payload.now }
 {
-    let mut out = io::buffer();
+    let mut out = [0u8; 4096];
     let w = chna_into(payload, channels, &mut out);
-    written(w, &out, payload);
+    written(rt, w, &out, payload)?;
     let mut less = [0u8; 3];
-    short(chna_into(payload, channels, &mut less));
+    short(rt, chna_into(payload, channels, &mut less))
 }
 
 // Reads a payload as chna, and writes them, good or not.
-fn chna(payload: &[u8], channels: u64) {
-    text(b":");
-    chna_fields(payload, channels);
+fn chna(rt: &impl Print, payload: &[u8], channels: u64) -> io::Result<()> {
+    text(rt, b":")?;
+    chna_fields(rt, payload, channels)?;
     if 4 <= payload.len() {
-        write_chna(payload, channels);
+        write_chna(rt, payload, channels)?;
     }
+    Ok(())
 }
 
 // Reads n zeros as chna.
-fn zeros(n: usize) {
-    let none = io::large_buffer();
-    text(b":");
-    chna_fields(first(&none, n), 2);
+fn zeros(rt: &impl Print, n: usize) -> io::Result<()> {
+    let none = [0u8; 65536];
+    text(rt, b":")?;
+    chna_fields(rt, first(&none, n), 2)
 }
 
 // An identifier after a space.
-fn id(s: &[u8]) {
-    text(b" ");
-    text(s);
+fn id(rt: &impl Print, s: &[u8]) -> io::Result<()> {
+    text(rt, b" ")?;
+    text(rt, s)
 }
 
 // An entry of a chna payload, good or not.
-fn entry(payload: &[u8], i: usize) {
-    text(b":");
+fn entry(rt: &impl Print, payload: &[u8], i: usize) -> io::Result<()> {
+    text(rt, b":")?;
     let e = chna::entry(payload, i);
     if !e.used {
-        text(b" unused");
-        return;
+        return text(rt, b" unused");
     }
-    next(e.index);
+    next(rt, e.index)?;
     let uid = e.uid;
-    id(&uid);
+    id(rt, &uid)?;
     let track = e.track;
-    id(&track);
+    id(rt, &track)?;
     let pack = e.pack;
-    id(&pack);
+    id(rt, &pack)
 }
 
 // Copies a chna payload, good or not.
-fn copy(payload: &[u8]) {
+fn copy(rt: &impl Print, payload: &[u8]) -> io::Result<()> {
     let mut out = [0u8; 84];
     chna::copy(payload, &mut out);
-    text(b": copied");
-    compared(first(&out, payload.len()), payload);
+    text(rt, b": copied")?;
+    compared(rt, first(&out, payload.len()), payload)?;
     let mut less = [7u8; 3];
     chna::copy(payload, &mut less);
-    text(b", short");
-    compared(&less, &[7u8; 3]);
+    text(rt, b", short")?;
+    compared(rt, &less, &[7u8; 3])
 }
 
 // A line: what a command that is none of the script's asks, at a place and after the number n.
-fn command(b: u8, at: u64, n: usize, file: &[u8])
+fn command(rt: &impl Print, b: u8, at: u64, n: usize, file: &[u8]) -> io::Result<()>
     requires { 72 ≤ length file.now }
 {
     let payload = first(file, n);
     match b {
-        b'f' => fmt(payload),
-        b'b' => bext(payload),
-        b'c' => chna(payload, at),
-        b'w' => given_fmt(file),
-        b'd' => given_bext(payload, file),
-        b'z' => zeros(n),
-        b'e' => entry(payload, at as usize),
-        b'p' => copy(payload),
-        _ => return,
+        b'f' => fmt(rt, payload)?,
+        b'b' => bext(rt, payload)?,
+        b'c' => chna(rt, payload, at)?,
+        b'w' => given_fmt(rt, file)?,
+        b'd' => given_bext(rt, payload, file)?,
+        b'z' => zeros(rt, n)?,
+        b'e' => entry(rt, payload, at as usize)?,
+        b'p' => copy(rt, payload)?,
+        _ => return Ok(()),
     }
-    text(b"\n");
+    text(rt, b"\n")
 }
 
 // What a script leaves to the program at a character.
-fn act(sign: Sign, b: u8, at: usize, n: u64, file: &[u8])
+fn act(rt: &impl Print, sign: Sign, b: u8, at: usize, n: u64, file: &[u8]) -> io::Result<()>
     requires { 72 ≤ length file.now }
 {
     match sign {
-        Sign::Print => text(&[b]),
-        Sign::Own => command(b, at as u64, n as usize, file),
-        _ => {}
+        Sign::Print => text(rt, &[b]),
+        Sign::Own => command(rt, b, at as u64, n as usize, file),
+        _ => Ok(()),
     }
 }
 
-fn run(input: &[u8]) {
+fn run(rt: &impl Print, input: &[u8]) -> io::Result<()> {
     let mut file = [0u8; 2048];
     let mut kept = [0u8; 2048];
     let mut s = State::start();
@@ -350,14 +354,15 @@ fn run(input: &[u8]) {
     while i < input.len() {
         let b = input[i];
         let sign = s.sign(b);
-        act(sign, b, s.at, s.n, &file);
+        act(rt, sign, b, s.at, s.n, &file)?;
         s = s.after(sign, &mut file, &mut kept);
         i += 1;
     }
+    Ok(())
 }
 
-fn main() {
-    let mut buf = io::large_buffer();
-    let n = io::read_full(0, &mut buf);
-    run(&buf[..n]);
+fn main(rt: HostRuntime) -> io::Result<()> {
+    let mut input = Vec::new(rt.alloc());
+    rt.reader().read_to_end(&mut input)?;
+    run(&rt, &input)
 }

@@ -8,6 +8,7 @@ ghost use Rattle.std.specs.Prelude.{◌≤◌};
 use chunk::Written;
 use fmt::Format;
 use form::Form;
+use std::io;
 
 // One frame of two channels.
 const FRAME: [u8; 4] = [1, 0, 255, 255];
@@ -15,109 +16,113 @@ const FRAME: [u8; 4] = [1, 0, 255, 255];
 // A track sheet of one entry, whose pad is 7F.
 const SHEET: [u8; 44] = *b"\x01\x00\x01\x00\x01\x00ATU_00000001AT_00010001_01AP_00010001\x7F";
 
-fn text(s: &[u8]) {
-    io::write_all(1, s);
+fn text(rt: &impl Print, s: &[u8]) -> io::Result<()> {
+    rt.write_all(s)
 }
 
 // A number after a space.
-fn next(n: u64) {
-    text(b" ");
-    io::print_decimal(1, n);
+fn next(rt: &impl Print, n: u64) -> io::Result<()> {
+    text(rt, b" ")?;
+    rt.print(n)
 }
 
 // The four bytes of a name, after a space.
-fn name(n: u64) {
+fn name(rt: &impl Print, n: u64) -> io::Result<()> {
     let mut five = *b"     ";
     le::store4(&mut five, 1, n);
-    text(&five);
+    text(rt, &five)
 }
 
 // A byte as the document prints it, and a space.
-fn hex(b: u8) {
+fn hex(rt: &impl Print, b: u8) -> io::Result<()> {
     let digits = *b"0123456789ABCDEF";
     let three = [digits[(b / 16) as usize], digits[(b % 16) as usize], b' '];
-    text(&three);
+    text(rt, &three)
 }
 
 // A line of bytes.
-fn bytes_of(file: &[u8]) {
+fn bytes_of(rt: &impl Print, file: &[u8]) -> io::Result<()> {
     let mut i: usize = 0;
     while i < file.len() {
-        hex(file[i]);
+        hex(rt, file[i])?;
         i += 1;
     }
-    text(b"\n");
+    text(rt, b"\n")
 }
 
 // A row of a table: name, place and size, and the number of the size's source where that isn't the chunk's own field.
-fn row(words: &[u64], at: usize)
+fn row(rt: &impl Print, words: &[u64], at: usize) -> io::Result<()>
     requires { at ≤ 256 }
 {
     if at + 3 < words.len() {
-        name(words[at]);
-        next(words[at + 1]);
-        next(words[at + 2]);
+        name(rt, words[at])?;
+        next(rt, words[at + 1])?;
+        next(rt, words[at + 2])?;
         let source = words[at + 3];
         if source != 0 {
-            text(b" from");
-            next(source);
+            text(rt, b" from")?;
+            next(rt, source)?;
         }
     }
+    Ok(())
 }
 
 // The rows of a table, of which a written file has at most five.
-fn rows(words: &[u64]) {
+fn rows(rt: &impl Print, words: &[u64]) -> io::Result<()> {
     if words.len() == 0 {
-        return;
+        return Ok(());
     }
     let count = words[0];
     let mut i: usize = 0;
     while i < 5 {
         if (i as u64) < count {
-            row(words, 1 + 4 * i);
+            row(rt, words, 1 + 4 * i)?;
         }
         i += 1;
     }
+    Ok(())
 }
 
 // The four numbers of a 64-bit form's ds64.
-fn ds64(file: &[u8]) {
+fn ds64(rt: &impl Print, file: &[u8]) -> io::Result<()> {
     if file.len() < 48 {
-        return;
+        return Ok(());
     }
     if le::read4(file, 12) == chunk::Name::DS64 {
-        text(b";");
-        next(le::read8(file, 20));
-        next(le::read8(file, 28));
-        next(le::read8(file, 36));
-        next(le::read4(file, 44));
+        text(rt, b";")?;
+        next(rt, le::read8(file, 20))?;
+        next(rt, le::read8(file, 28))?;
+        next(rt, le::read8(file, 36))?;
+        next(rt, le::read4(file, 44))?;
     }
+    Ok(())
 }
 
 // The number of a scan, the rows of its table, and ds64.
-fn scan(file: &[u8]) {
+fn scan(rt: &impl Print, file: &[u8]) -> io::Result<()> {
     let t = wave::scan(file);
     let v = t.verdict;
     let words = t.table.words;
-    next(v.number() as u64);
-    rows(&words);
-    ds64(file);
+    next(rt, v.number() as u64)?;
+    rows(rt, &words)?;
+    ds64(rt, file)
 }
 
 // What was written at the start of out.
-fn written(out: &[u8], w: Written) {
+fn written(rt: &impl Print, out: &[u8], w: Written) -> io::Result<()> {
     match w {
         Written::Refused(r) => {
-            text(b" refused");
-            next(r.number() as u64);
+            text(rt, b" refused")?;
+            next(rt, r.number() as u64)
         }
         Written::Bytes(n) => {
-            next(n);
-            text(b" bytes:");
+            next(rt, n)?;
+            text(rt, b" bytes:")?;
             let k = n as usize;
             if k <= out.len() {
-                scan(&out[0..k]);
+                scan(rt, &out[0..k])?;
             }
+            Ok(())
         }
     }
 }
@@ -152,6 +157,7 @@ fn format(channels: u64) -> Format {
 
 // A line: what comes of a file, written into out.
 fn write(
+    rt: &impl Print,
     label: &[u8],
     form: Form,
     channels: u64,
@@ -159,20 +165,21 @@ fn write(
     chna: &[u8],
     audio: &[u8],
     out: &mut [u8],
-) {
-    text(label);
+) -> io::Result<()> {
+    text(rt, label)?;
     let w = writer::write(form, format(channels), bext, chna, audio, out);
-    written(out, w);
-    text(b"\n");
+    written(rt, out, w)?;
+    text(rt, b"\n")
 }
 
 // A file of so many bytes of the track sheet and of the frame, written into out.
-fn riff(label: &[u8], chna: usize, audio: usize, out: &mut [u8])
+fn riff(rt: &impl Print, label: &[u8], chna: usize, audio: usize, out: &mut [u8]) -> io::Result<()>
     requires { (chna ≤ 44) × (audio ≤ 4) }
 {
     let sheet = SHEET;
     let frame = FRAME;
     write(
+        rt,
         label,
         Form::Riff,
         2,
@@ -180,85 +187,108 @@ fn riff(label: &[u8], chna: usize, audio: usize, out: &mut [u8])
         &sheet[0..chna],
         &frame[0..audio],
         out,
-    );
+    )
 }
 
 // The document's whole file, in an output of 85 bytes: the last one stays.
-fn whole() {
+fn whole(rt: &impl Print) -> io::Result<()> {
     let mut out = [0xEEu8; 85];
-    riff(b"the document's file:", 0, 4, &mut out);
-    bytes_of(&out);
+    riff(rt, b"the document's file:", 0, 4, &mut out)?;
+    bytes_of(rt, &out)
 }
 
 // An output of 83 bytes for it: nothing is written.
-fn short() {
+fn short(rt: &impl Print) -> io::Result<()> {
     let mut out = [0xEEu8; 83];
-    riff(b"83 bytes of room:", 0, 4, &mut out);
-    bytes_of(&out[0..4]);
+    riff(rt, b"83 bytes of room:", 0, 4, &mut out)?;
+    bytes_of(rt, &out[0..4])
 }
 
 // The pad of a sheet's entry, in a file with no bext.
-fn pad() {
+fn pad(rt: &impl Print) -> io::Result<()> {
     let mut out = [0xEEu8; 800];
-    riff(b"the sheet's pad:", 44, 0, &mut out);
-    bytes_of(&out[112..124]);
+    riff(rt, b"the sheet's pad:", 44, 0, &mut out)?;
+    bytes_of(rt, &out[112..124])
 }
 
 // One file.
-fn one(label: &[u8], form: Form, channels: u64, bext: &[u8], chna: &[u8], audio: &[u8]) {
+fn one(
+    rt: &impl Print,
+    label: &[u8],
+    form: Form,
+    channels: u64,
+    bext: &[u8],
+    chna: &[u8],
+    audio: &[u8],
+) -> io::Result<()> {
     let mut out = [0xEEu8; 800];
-    write(label, form, channels, bext, chna, audio, &mut out);
+    write(rt, label, form, channels, bext, chna, audio, &mut out)
 }
 
 // One file in each form.
-fn each(label: &[u8], channels: u64, bext: &[u8], chna: &[u8], audio: &[u8]) {
-    text(label);
-    one(b"\n  RIFF", Form::Riff, channels, bext, chna, audio);
-    one(b"  RF64", Form::Rf64, channels, bext, chna, audio);
-    one(b"  BW64", Form::Bw64, channels, bext, chna, audio);
+fn each(
+    rt: &impl Print,
+    label: &[u8],
+    channels: u64,
+    bext: &[u8],
+    chna: &[u8],
+    audio: &[u8],
+) -> io::Result<()> {
+    text(rt, label)?;
+    one(rt, b"\n  RIFF", Form::Riff, channels, bext, chna, audio)?;
+    one(rt, b"  RF64", Form::Rf64, channels, bext, chna, audio)?;
+    one(rt, b"  BW64", Form::Bw64, channels, bext, chna, audio)
 }
 
 // Files of so many channels, and of so many bytes of bext, all zero, of the track sheet and of the frame.
-fn case(label: &[u8], channels: u64, bext: usize, chna: usize, audio: usize)
+fn case(
+    rt: &impl Print,
+    label: &[u8],
+    channels: u64,
+    bext: usize,
+    chna: usize,
+    audio: usize,
+) -> io::Result<()>
     requires { (bext ≤ 603) × (chna ≤ 44) × (audio ≤ 4) }
 {
     let zeros = [0u8; 603];
     let sheet = SHEET;
     let frame = FRAME;
     each(
+        rt,
         label,
         channels,
         &zeros[0..bext],
         &sheet[0..chna],
         &frame[0..audio],
-    );
+    )
 }
 
-fn audio() {
-    case(b"one frame", 2, 0, 0, 4);
-    case(b"no audio", 2, 0, 0, 0);
-    case(b"odd audio", 1, 0, 0, 3);
+fn audio(rt: &impl Print) -> io::Result<()> {
+    case(rt, b"one frame", 2, 0, 0, 4)?;
+    case(rt, b"no audio", 2, 0, 0, 0)?;
+    case(rt, b"odd audio", 1, 0, 0, 3)
 }
 
-fn records() {
-    case(b"bext", 2, 602, 0, 4);
-    case(b"chna", 2, 0, 44, 4);
-    case(b"bext and chna", 2, 602, 44, 4);
-    case(b"odd bext, odd audio", 1, 603, 0, 3);
+fn records(rt: &impl Print) -> io::Result<()> {
+    case(rt, b"bext", 2, 602, 0, 4)?;
+    case(rt, b"chna", 2, 0, 44, 4)?;
+    case(rt, b"bext and chna", 2, 602, 44, 4)?;
+    case(rt, b"odd bext, odd audio", 1, 603, 0, 3)
 }
 
 // What no writer takes.
-fn refused() {
-    case(b"ragged audio", 2, 0, 0, 3);
-    case(b"bext of 601", 2, 601, 0, 4);
-    case(b"chna of 43", 2, 0, 43, 4);
+fn refused(rt: &impl Print) -> io::Result<()> {
+    case(rt, b"ragged audio", 2, 0, 0, 3)?;
+    case(rt, b"bext of 601", 2, 601, 0, 4)?;
+    case(rt, b"chna of 43", 2, 0, 43, 4)
 }
 
-fn main() {
-    whole();
-    short();
-    audio();
-    records();
-    pad();
-    refused();
+fn main(rt: HostRuntime) -> io::Result<()> {
+    whole(&rt)?;
+    short(&rt)?;
+    audio(&rt)?;
+    records(&rt)?;
+    pad(&rt)?;
+    refused(&rt)
 }
