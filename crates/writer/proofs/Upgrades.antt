@@ -20,7 +20,7 @@ use Rattle.chunk.specs.Refusals.{given}
 use Rattle.chunk.specs.Tables.{find}
 use Rattle.chunk.proofs.Checks.{check-true, pick-false}
 use Rattle.form.specs.declared.Form.{Form}
-use Rattle.form.specs.declared.Form.TheVariants.{Riff, Rf64, Bw64}
+use Rattle.form.specs.declared.Form.TheVariants.{Riff}
 use Rattle.form.specs.Forms.{name_of, is_wide, form_size}
 use Rattle.fmt.specs.declared.Format.{Format}
 use Rattle.fmt.specs.Writing.{format_bytes}
