@@ -190,6 +190,9 @@ fn act(rt: &impl Print, sign: Sign, b: u8, n: u64, file: &mut [u8]) -> io::Resul
     }
 }
 
+// The most bytes of input that are read.
+const INPUT: u64 = 65_536;
+
 fn run(rt: &impl Print, input: &[u8]) -> io::Result<()> {
     let mut file = [0u8; 1024];
     let mut kept = [0u8; 1024];
@@ -207,6 +210,6 @@ fn run(rt: &impl Print, input: &[u8]) -> io::Result<()> {
 
 fn main(rt: HostRuntime) -> io::Result<()> {
     let mut input = Vec::new(rt.alloc());
-    rt.reader().read_to_end(&mut input)?;
+    rt.reader().take(INPUT).read_to_end(&mut input)?;
     run(&rt, &input)
 }

@@ -346,6 +346,9 @@ fn act(rt: &impl Print, sign: Sign, b: u8, at: usize, n: u64, file: &[u8]) -> io
     }
 }
 
+// The most bytes of input that are read.
+const INPUT: u64 = 65_536;
+
 fn run(rt: &impl Print, input: &[u8]) -> io::Result<()> {
     let mut file = [0u8; 2048];
     let mut kept = [0u8; 2048];
@@ -363,6 +366,6 @@ fn run(rt: &impl Print, input: &[u8]) -> io::Result<()> {
 
 fn main(rt: HostRuntime) -> io::Result<()> {
     let mut input = Vec::new(rt.alloc());
-    rt.reader().read_to_end(&mut input)?;
+    rt.reader().take(INPUT).read_to_end(&mut input)?;
     run(&rt, &input)
 }

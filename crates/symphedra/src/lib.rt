@@ -13,7 +13,6 @@ use samples::Samples;
 use upgrade::Target;
 
 // The table of a file's chunks, or its refusal and no chunk.
-#[unsafe(no_mangle)]
 pub extern "C" fn symphedra_scan(file: &[u8], table: &mut [u64]) -> u32
     ensures { Scans file.now table.old result table.new }
 {
@@ -21,7 +20,6 @@ pub extern "C" fn symphedra_scan(file: &[u8], table: &mut [u64]) -> u32
 }
 
 // What the 32-bit walk shows, and its stop.
-#[unsafe(no_mangle)]
 pub extern "C" fn symphedra_walk32(file: &[u8], table: &mut [u64]) -> u32
     ensures { Walks32 file.now table.old result table.new }
 {
@@ -29,7 +27,6 @@ pub extern "C" fn symphedra_walk32(file: &[u8], table: &mut [u64]) -> u32
 }
 
 // 1 and the sample count, or two zeros.
-#[unsafe(no_mangle)]
 pub extern "C" fn symphedra_sample_count(file: &[u8], out: &mut [u64]) -> u32
     ensures { Counts file.now out.old result out.new }
 {
@@ -44,7 +41,6 @@ pub extern "C" fn symphedra_sample_count(file: &[u8], out: &mut [u64]) -> u32
 }
 
 // Upgrades a file to RF64 in place.
-#[unsafe(no_mangle)]
 pub extern "C" fn symphedra_upgrade_rf64(file: &mut [u8]) -> u32
     ensures { Upgrades rf64 file.old result file.new }
 {
@@ -52,7 +48,6 @@ pub extern "C" fn symphedra_upgrade_rf64(file: &mut [u8]) -> u32
 }
 
 // Upgrades a file to BW64 in place.
-#[unsafe(no_mangle)]
 pub extern "C" fn symphedra_upgrade_bw64(file: &mut [u8]) -> u32
     ensures { Upgrades bw64 file.old result file.new }
 {
@@ -60,7 +55,6 @@ pub extern "C" fn symphedra_upgrade_bw64(file: &mut [u8]) -> u32
 }
 
 // The nine words of a format record, or zeros.
-#[unsafe(no_mangle)]
 pub extern "C" fn symphedra_read_fmt(payload: &[u8], record: &mut [u64]) -> u32
     ensures { ReadsFmt payload.now «record».old result «record».new }
 {
@@ -68,7 +62,6 @@ pub extern "C" fn symphedra_read_fmt(payload: &[u8], record: &mut [u64]) -> u32
 }
 
 // The eight words of a bext record, or zeros.
-#[unsafe(no_mangle)]
 pub extern "C" fn symphedra_read_bext(payload: &[u8], out: &mut [u64]) -> u32
     ensures { ReadsBext payload.now out.old result out.new }
 {
@@ -76,7 +69,6 @@ pub extern "C" fn symphedra_read_bext(payload: &[u8], out: &mut [u64]) -> u32
 }
 
 // Place and length of each part of a bext payload, or zeros.
-#[unsafe(no_mangle)]
 pub extern "C" fn symphedra_bext_parts(payload: &[u8], out: &mut [u64]) -> u32
     ensures { PartsOf payload.now out.old result out.new }
 {
@@ -84,7 +76,6 @@ pub extern "C" fn symphedra_bext_parts(payload: &[u8], out: &mut [u64]) -> u32
 }
 
 // The three words of a chna record, or zeros.
-#[unsafe(no_mangle)]
 pub extern "C" fn symphedra_read_chna(payload: &[u8], channels: u16, out: &mut [u64]) -> u32
     ensures { ReadsChna channels payload.now out.old result out.new }
 {
@@ -92,7 +83,6 @@ pub extern "C" fn symphedra_read_chna(payload: &[u8], channels: u16, out: &mut [
 }
 
 // Entry i of a chna payload: five words, or zeros.
-#[unsafe(no_mangle)]
 pub extern "C" fn symphedra_chna_entry(payload: &[u8], i: usize, out: &mut [u64]) -> u32
     ensures { EntryOf i payload.now out.old result out.new }
 {

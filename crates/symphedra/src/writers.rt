@@ -8,7 +8,6 @@ use form::Form;
 use records::Given;
 
 // Writes the payload of a format record, which is nine words.
-#[unsafe(no_mangle)]
 pub extern "C" fn symphedra_write_fmt(record: &[u64], out: &mut [u8], written: &mut [u64]) -> u32
     ensures { WritesFmt «record».now out.old written.old result out.new written.new }
 {
@@ -16,7 +15,6 @@ pub extern "C" fn symphedra_write_fmt(record: &[u64], out: &mut [u8], written: &
 }
 
 // Writes the payload of a chna record of these counts and entries, in a file of so many channels.
-#[unsafe(no_mangle)]
 pub extern "C" fn symphedra_write_chna(
     tracks: u16,
     uids: u16,
@@ -31,7 +29,6 @@ pub extern "C" fn symphedra_write_chna(
 }
 
 // Writes the payload of a bext record. A date or time of no bytes is not set, and a rest of none is 254 zeros.
-#[unsafe(no_mangle)]
 pub extern "C" fn symphedra_write_bext(
     description: &[u8],
     originator: &[u8],
@@ -83,7 +80,6 @@ fn write_file(
 }
 
 // Writes a RIFF file.
-#[unsafe(no_mangle)]
 pub extern "C" fn symphedra_write_riff(
     fmt: &[u64],
     bext: &[u8],
@@ -98,7 +94,6 @@ pub extern "C" fn symphedra_write_riff(
 }
 
 // Writes an RF64 file.
-#[unsafe(no_mangle)]
 pub extern "C" fn symphedra_write_rf64(
     fmt: &[u64],
     bext: &[u8],
@@ -113,7 +108,6 @@ pub extern "C" fn symphedra_write_rf64(
 }
 
 // Writes a BW64 file.
-#[unsafe(no_mangle)]
 pub extern "C" fn symphedra_write_bw64(
     fmt: &[u64],
     bext: &[u8],
