@@ -13,21 +13,21 @@ use samples::Samples;
 use upgrade::Target;
 
 // The table of a file's chunks, or its refusal and no chunk.
-pub extern "C" fn symphedra_scan(file: &[u8], table: &mut [u64]) -> u32
+pub fn symphedra_scan(file: &[u8], table: &mut [u64]) -> u32
     ensures { Scans file.now table.old result table.new }
 {
     wave::scan_into(file, table).number()
 }
 
 // What the 32-bit walk shows, and its stop.
-pub extern "C" fn symphedra_walk32(file: &[u8], table: &mut [u64]) -> u32
+pub fn symphedra_walk32(file: &[u8], table: &mut [u64]) -> u32
     ensures { Walks32 file.now table.old result table.new }
 {
     wave::walk32_into(file, table).number()
 }
 
 // 1 and the sample count, or two zeros.
-pub extern "C" fn symphedra_sample_count(file: &[u8], out: &mut [u64]) -> u32
+pub fn symphedra_sample_count(file: &[u8], out: &mut [u64]) -> u32
     ensures { Counts file.now out.old result out.new }
 {
     match samples::sample_count(file) {
@@ -41,49 +41,49 @@ pub extern "C" fn symphedra_sample_count(file: &[u8], out: &mut [u64]) -> u32
 }
 
 // Upgrades a file to RF64 in place.
-pub extern "C" fn symphedra_upgrade_rf64(file: &mut [u8]) -> u32
+pub fn symphedra_upgrade_rf64(file: &mut [u8]) -> u32
     ensures { Upgrades rf64 file.old result file.new }
 {
     upgrade::upgrade(file, Target::Rf64).number()
 }
 
 // Upgrades a file to BW64 in place.
-pub extern "C" fn symphedra_upgrade_bw64(file: &mut [u8]) -> u32
+pub fn symphedra_upgrade_bw64(file: &mut [u8]) -> u32
     ensures { Upgrades bw64 file.old result file.new }
 {
     upgrade::upgrade(file, Target::Bw64).number()
 }
 
 // The nine words of a format record, or zeros.
-pub extern "C" fn symphedra_read_fmt(payload: &[u8], record: &mut [u64]) -> u32
+pub fn symphedra_read_fmt(payload: &[u8], record: &mut [u64]) -> u32
     ensures { ReadsFmt payload.now «record».old result «record».new }
 {
     records::read_fmt(payload, record)
 }
 
 // The eight words of a bext record, or zeros.
-pub extern "C" fn symphedra_read_bext(payload: &[u8], out: &mut [u64]) -> u32
+pub fn symphedra_read_bext(payload: &[u8], out: &mut [u64]) -> u32
     ensures { ReadsBext payload.now out.old result out.new }
 {
     records::read_bext(payload, out)
 }
 
 // Place and length of each part of a bext payload, or zeros.
-pub extern "C" fn symphedra_bext_parts(payload: &[u8], out: &mut [u64]) -> u32
+pub fn symphedra_bext_parts(payload: &[u8], out: &mut [u64]) -> u32
     ensures { PartsOf payload.now out.old result out.new }
 {
     records::bext_parts(payload, out)
 }
 
 // The three words of a chna record, or zeros.
-pub extern "C" fn symphedra_read_chna(payload: &[u8], channels: u16, out: &mut [u64]) -> u32
+pub fn symphedra_read_chna(payload: &[u8], channels: u16, out: &mut [u64]) -> u32
     ensures { ReadsChna channels payload.now out.old result out.new }
 {
     records::read_chna(payload, channels, out)
 }
 
 // Entry i of a chna payload: five words, or zeros.
-pub extern "C" fn symphedra_chna_entry(payload: &[u8], i: usize, out: &mut [u64]) -> u32
+pub fn symphedra_chna_entry(payload: &[u8], i: usize, out: &mut [u64]) -> u32
     ensures { EntryOf i payload.now out.old result out.new }
 {
     records::chna_entry(payload, i, out)

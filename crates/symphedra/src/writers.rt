@@ -8,14 +8,14 @@ use form::Form;
 use records::Given;
 
 // Writes the payload of a format record, which is nine words.
-pub extern "C" fn symphedra_write_fmt(record: &[u64], out: &mut [u8], written: &mut [u64]) -> u32
+pub fn symphedra_write_fmt(record: &[u64], out: &mut [u8], written: &mut [u64]) -> u32
     ensures { WritesFmt «record».now out.old written.old result out.new written.new }
 {
     records::write_fmt(record, out, written)
 }
 
 // Writes the payload of a chna record of these counts and entries, in a file of so many channels.
-pub extern "C" fn symphedra_write_chna(
+pub fn symphedra_write_chna(
     tracks: u16,
     uids: u16,
     entries: &[u8],
@@ -29,7 +29,7 @@ pub extern "C" fn symphedra_write_chna(
 }
 
 // Writes the payload of a bext record. A date or time of no bytes is not set, and a rest of none is 254 zeros.
-pub extern "C" fn symphedra_write_bext(
+pub fn symphedra_write_bext(
     description: &[u8],
     originator: &[u8],
     reference: &[u8],
@@ -80,7 +80,7 @@ fn write_file(
 }
 
 // Writes a RIFF file.
-pub extern "C" fn symphedra_write_riff(
+pub fn symphedra_write_riff(
     fmt: &[u64],
     bext: &[u8],
     chna: &[u8],
@@ -94,7 +94,7 @@ pub extern "C" fn symphedra_write_riff(
 }
 
 // Writes an RF64 file.
-pub extern "C" fn symphedra_write_rf64(
+pub fn symphedra_write_rf64(
     fmt: &[u64],
     bext: &[u8],
     chna: &[u8],
@@ -108,7 +108,7 @@ pub extern "C" fn symphedra_write_rf64(
 }
 
 // Writes a BW64 file.
-pub extern "C" fn symphedra_write_bw64(
+pub fn symphedra_write_bw64(
     fmt: &[u64],
     bext: &[u8],
     chna: &[u8],

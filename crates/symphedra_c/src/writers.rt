@@ -43,7 +43,19 @@ pub extern "C" fn symphedra_write_bext(
 ) -> u32
     ensures { WritesBext (asked description.now originator.now reference.now date.now time.now timeref version rest.now history.now) out.old written.old result out.new written.new }
 {
-    symphedra::writers::symphedra_write_bext(description, originator, reference, date, time, timeref, version, rest, history, out, written)
+    symphedra::writers::symphedra_write_bext(
+        description,
+        originator,
+        reference,
+        date,
+        time,
+        timeref,
+        version,
+        rest,
+        history,
+        out,
+        written,
+    )
 }
 
 // Writes a RIFF file.
