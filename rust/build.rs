@@ -1,5 +1,5 @@
 //! Tells the linker where libsymphedra.a is: the folder SYMPHEDRA_LIB_DIR, or else the folder of the
-//! repository where `rt staticlib symphedra` writes it.
+//! repository where `scripts/archive` writes it.
 
 use std::{env, path::PathBuf};
 
@@ -13,7 +13,7 @@ fn main() {
     println!("cargo:rerun-if-changed={}", archive.display());
     if !archive.exists() {
         println!(
-            "cargo:warning={} isn't there: run `rt staticlib symphedra` first",
+            "cargo:warning={} isn't there: run `scripts/archive` first",
             archive.display()
         );
     }

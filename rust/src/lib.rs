@@ -5,7 +5,7 @@
 //! no byte. Nothing here panics.
 //!
 //! The build takes the library from the folder `SYMPHEDRA_LIB_DIR`, or else from where
-//! `rt staticlib symphedra` writes it. Without the feature `command` the crate has no dependencies.
+//! `scripts/archive` writes it. Without the feature `command` the crate has no dependencies.
 //!
 //! ```
 //! use symphedra::{scan, upgrade, walk32, write_file, Fmt, Form, Refusal, Target};
