@@ -12,10 +12,7 @@ fn main() {
     let archive = folder.join("libsymphedra.a");
     println!("cargo:rerun-if-changed={}", archive.display());
     if !archive.exists() {
-        println!(
-            "cargo:warning={} isn't there: run `scripts/archive` first",
-            archive.display()
-        );
+        println!("cargo:warning={} isn't there: run `scripts/archive` first", archive.display());
     }
     println!("cargo:rustc-link-search=native={}", folder.display());
     println!("cargo:rustc-link-lib=static=symphedra");
