@@ -1,8 +1,9 @@
 -- The checks of a definition, one after the other: a link of the chain that answers is inverted by one law, and built by
 -- one. A caller cites these and never opens the combinators.
 -- Assumes nothing.
-use mathlib.Core.Path.{◌≡◌, refl}
+use mathlib.Core.Path.{◌≡◌, refl, sym}
 use mathlib.Core.Bool.{Bool, true, false, ◌&&◌, ◌||◌}
+use mathlib.Core.Logic.{◌⊎◌, inl, inr}
 use Prim.Native.Nat.{ℕ}
 use native.Mathlib.Omega.{arith}
 use Rattle.le.specs.Choice.{pick}
@@ -13,6 +14,9 @@ use Rattle.chunk.specs.Refusals.{Answer, refused, given, check, and_then}
 
 pub given-inj : {A : Type 0} (a b : A) → given a ≡ given b → a ≡ b
 given-inj a b e = cc
+
+pub refused-inj : {A : Type 0} (r q : Refusal) → ◌≡◌ {A = Answer A} (refused r) (refused q) → r ≡ q
+refused-inj r q e = cc
 
 pub refused-given : {A : Type 0} (r : Refusal) (a : A) → ◌≡◌ {A = Answer A} (refused r) (given a) → ⊥
 refused-given r a e = let z : ◌≡◌ {A = ℕ} 0 1 = cc in omega arith
@@ -51,6 +55,13 @@ check-true b r k e = rw e
 pub check-false : {A : Type 0} (b : Bool) (r : Refusal) (k : Answer A) → b ≡ false → check b r k ≡ refused r
 unfolding check
 check-false b r k e = rw e
+
+-- a refusal is its own, or that of what follows
+pub check-refused : {A : Type 0} (b : Bool) (r : Refusal) (k : Answer A) (q : Refusal) → check b r k ≡ refused q
+    → (q ≡ r) ⊎ (k ≡ refused q)
+unfolding check
+check-refused true r k q e = inr e
+check-refused false r k q e = inl (sym (refused-inj r q e))
 
 -- ---- then
 

@@ -2,7 +2,7 @@
 use Rattle.std.specs.Prelude.{ℕ, Bool}
 use Rattle.le.specs.Choice.{pick}
 use Rattle.chunk.specs.declared.Refusal.{Refusal}
-use Rattle.chunk.specs.declared.Refusal.TheVariants.{TooShort, NotWave, Unfinished, BadDs64, BadFormSize, CutHeader, TooMany, UnknownSize, PastEnd, BadChunkSet, BadFmt, RaggedAudio, BadBext, BadChna, BadRecord, TooLarge, ShortOutput, Already64, NoReserve}
+use Rattle.chunk.specs.declared.Refusal.TheVariants.{TooShort, NotWave, Unfinished, BadDs64, BadFormSize, CutHeader, TooMany, UnknownSize, PastEnd, BadChunkSet, BadFmt, RaggedAudio, BadBext, BadChna, BadRecord, TooLarge, ShortOutput, Already64, NoReserve, StaleListing}
 use Rattle.chunk.specs.declared.Verdict.{Verdict}
 use Rattle.chunk.specs.declared.Verdict.TheVariants.{Accepted, Refused}
 
@@ -27,6 +27,7 @@ refusal_number TooLarge = 17
 refusal_number ShortOutput = 15
 refusal_number Already64 = 18
 refusal_number NoReserve = 19
+refusal_number StaleListing = 24
 
 -- the number of a verdict: 0 where nothing is refused
 abbrev pub verdict_number : Verdict → ℕ

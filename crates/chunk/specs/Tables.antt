@@ -1,6 +1,6 @@
 -- A table of chunks: "name, payload place and true size of each chunk, in file order", and (document 02) where the size
 -- came from. As words: the number of chunks, then four words for each.
-use Rattle.std.specs.Prelude.{ℕ, suc, ◌+◌, ◌*◌, List, [], ◌∷◌, ◌++◌, length, drop, replicate, get_or, eqb}
+use Rattle.std.specs.Prelude.{ℕ, suc, ◌+◌, ◌*◌, Bool, true, false, List, [], ◌∷◌, ◌++◌, length, drop, replicate, get_or, eqb}
 use Rattle.std.proofs.lemmas.List.Edits.{sets}
 use Rattle.le.specs.Choice.{pick}
 use Rattle.chunk.specs.declared.Entry.{Entry}
@@ -24,9 +24,20 @@ unfoldable pub all_words : List Entry → List ℕ
 all_words [] = []
 all_words (e ∷ es) = row_words e ++ all_words es
 
+-- the words of a table: the number of its chunks, and the words of each
+unfoldable pub table_words : List Entry → List ℕ
+table_words rows = length rows ∷ all_words rows
+
 -- words that hold the table of these chunks; those past the last chunk as they were
 unfoldable pub tabled : List Entry → List ℕ → List ℕ
 tabled rows w = length rows ∷ all_words rows ++ drop (1 + 4 * length rows) w
+
+-- whether words begin with these: all of them are there, and what follows isn't looked at
+unfoldable pub begins : List ℕ → List ℕ → Bool
+unfolding pick
+begins [] w = true
+begins (x ∷ xs) [] = false
+begins (x ∷ xs) (y ∷ w) = pick (eqb y x) (begins xs w) false
 
 -- the table of these chunks, with zeros past the last
 unfoldable pub table_of : List Entry → Table

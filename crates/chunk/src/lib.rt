@@ -5,11 +5,11 @@
 
 pub mod steps;
 
-ghost use Rattle.std.specs.Prelude.{◌≡◌, ◌+◌, ◌^◌, ◌≤◌, ◌<◌, [], length, get_or};
+ghost use Rattle.std.specs.Prelude.{◌≡◌, ◌+◌, ◌^◌, ◌≤◌, ◌<◌, [], length, drop, get_or};
 ghost use Rattle.std.proofs.lemmas.List.Edits.{sets};
 ghost use Rattle.chunk.specs.Refusals.{refusal_number, verdict_number};
 ghost use Rattle.chunk.specs.Sources.{source_number, source_of};
-ghost use Rattle.chunk.specs.Tables.{table_of, row_words, row_in};
+ghost use Rattle.chunk.specs.Tables.{table_of, row_words, row_in, begins};
 ghost use Rattle.chunk.specs.Walks.{field_size};
 
 // Why a file or a record is refused: document 01's table, in its order.
@@ -53,6 +53,8 @@ pub enum Refusal {
     Already64,
     // 19: the first chunk is no JUNK of 28 bytes or more.
     NoReserve,
+    // 24: the words are no fresh listing of the file, or it has none.
+    StaleListing,
 }
 
 impl Refusal {
@@ -80,6 +82,7 @@ impl Refusal {
             Refusal::ShortOutput => 15,
             Refusal::Already64 => 18,
             Refusal::NoReserve => 19,
+            Refusal::StaleListing => 24,
         }
     }
 }
@@ -188,6 +191,24 @@ pub fn put_row(words: &mut [u64], at: usize, e: Entry)
     words[at + 2] = e.size;
     let source = e.source;
     words[at + 3] = source.number();
+}
+
+// Whether the row that starts at a word is an entry's, word for word.
+pub fn is_row(words: &[u64], at: usize, e: Entry) -> bool
+    requires { at + 4 ≤ length words.now }
+    ensures { result ≡ begins (row_words e) (drop at words.now) }
+{
+    if words[at] != e.name {
+        return false;
+    }
+    if words[at + 1] != e.place {
+        return false;
+    }
+    if words[at + 2] != e.size {
+        return false;
+    }
+    let source = e.source;
+    words[at + 3] == source.number()
 }
 
 // The source that a number tells.
