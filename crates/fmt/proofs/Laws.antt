@@ -13,9 +13,10 @@ use borrow.Author.Tests.{eqb-true, ne_eqb, ltb-true, leb-true, lt-ltb}
 use Rattle.le.specs.Number.{Bytes, bytes, number}
 use Rattle.le.specs.Choice.{pick, every}
 use Rattle.le.proofs.Laws.{number_bound}
+use Rattle.chunk.specs.declared.Refusal.{Refusal}
 use Rattle.chunk.specs.declared.Refusal.TheVariants.{BadFmt}
 use Rattle.chunk.specs.Refusals.{Answer, refused, given, check}
-use Rattle.chunk.proofs.Checks.{true-false, check-given, given-inj, picked}
+use Rattle.chunk.proofs.Checks.{true-false, check-given, check-refused, given-inj, refused-given, picked}
 use Rattle.fmt.specs.declared.Format.{Format}
 use Rattle.fmt.specs.Formats.{PCM, EXTENSIBLE, SUBFORMAT-LOW, SUBFORMAT-HIGH, size_good, bits_good, samples_good, valid_bits, valid_good, record_good, record_in, extra_good, format_in}
 use Rattle.fmt.specs.Code.{rest_good}
@@ -164,6 +165,19 @@ record-bad p e = rw e (cases (extra_good p))
     cases : (b : Bool) → pick {X = Answer Format} b (refused BadFmt) (refused BadFmt) ≡ refused BadFmt
     cases true = refl
     cases false = refl
+
+-- there is no other refusal
+pub only-bad : (p : List ℕ) (r : Refusal) → format_in p ≡ refused r → r ≡ BadFmt
+unfolding format_in
+only-bad p r e = first (check-refused (extra_good p) BadFmt _ r e)
+  where
+    second : (r ≡ BadFmt) ⊎ (given (record_in p) ≡ refused r) → r ≡ BadFmt
+    second (inl q) = q
+    second (inr q) = absurd (refused-given r (record_in p) (sym q))
+
+    first : (r ≡ BadFmt) ⊎ (check (record_good (record_in p)) BadFmt (given (record_in p)) ≡ refused r) → r ≡ BadFmt
+    first (inl q) = q
+    first (inr q) = second (check-refused (record_good (record_in p)) BadFmt (given (record_in p)) r q)
 
 pub short : (p : List ℕ) → length p < 16 → format_in p ≡ refused BadFmt
 unfolding record_good record_in

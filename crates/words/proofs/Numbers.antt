@@ -5,7 +5,7 @@ use Prim.Native.Nat.{◌≤◌}
 use native.Mathlib.Omega.{arith}
 use lib.Dec.{lit≤}
 use Rattle.chunk.specs.declared.Refusal.{Refusal}
-use Rattle.chunk.specs.declared.Refusal.TheVariants.{TooShort, NotWave, Unfinished, BadDs64, BadFormSize, CutHeader, TooMany, UnknownSize, PastEnd, BadChunkSet, BadFmt, RaggedAudio, BadBext, BadChna, BadRecord, TooLarge, ShortOutput, Already64, NoReserve}
+use Rattle.chunk.specs.declared.Refusal.TheVariants.{TooShort, NotWave, Unfinished, BadDs64, BadFormSize, CutHeader, TooMany, UnknownSize, PastEnd, BadChunkSet, BadFmt, RaggedAudio, BadBext, BadChna, BadRecord, TooLarge, ShortOutput, Already64, NoReserve, StaleListing}
 use Rattle.chunk.specs.Refusals.{refusal_number, verdict_number, Answer, refused, given, verdict_of}
 
 pub refusal-number : (r : Refusal) → 1 ≤ refusal_number r
@@ -28,6 +28,7 @@ refusal-number TooLarge = lit≤ tt
 refusal-number ShortOutput = lit≤ tt
 refusal-number Already64 = lit≤ tt
 refusal-number NoReserve = lit≤ tt
+refusal-number StaleListing = lit≤ tt
 
 -- so an answer whose number is 0 has a value
 pub accepted : {A : Type 0} (x : Answer A) → verdict_number (verdict_of x) ≡ 0 → (a : A) × (x ≡ given a)
