@@ -38,7 +38,7 @@ use Rattle.listing.specs.declared.headers.Tallied.TheVariants as tallied
 use Rattle.listing.specs.declared.Listing as code
 use Rattle.listing.specs.declared.Listed.TheVariants as listed
 use Rattle.listing.specs.Listings.{ended_as, chunks_good, Listing, headers, listing}
-use Rattle.listing.specs.Code.{all_noted, no_tally, tally_good, rule, rest_of, tally_as, kept_of, listed_as, chunks_as, bare_as}
+use Rattle.listing.specs.Code.{all_noted, no_tally, tally_good, rule, rest_of, tally_as, kept_of, listed_as, Fresh, chunks_as, bare_as}
 use Rattle.listing.proofs.Checked.{good-chunked}
 use Rattle.listing.proofs.Tallied.{noted-ds64, all-fmt, all-audio, tally-good, tally-fact}
 
@@ -259,3 +259,6 @@ pub listed-given : (s : List ℕ) (x : Answer Listing) (k : code.Listing) → li
 unfolding listed_as
 listed-given s (refused q) k e = absurd (let z : ◌≡◌ {A = ℕ} 0 1 = cc in omega arith)
 listed-given s (given l) k e = record { listing = l; is = refl; kept = cc }
+
+abbrev pub keeps : (s : List ℕ) (k : code.Listing) → Fresh s k → Keeps s (listing s) k
+keeps s k f = listed-given s (listing s) k f

@@ -30,7 +30,7 @@ use Rattle.listing.specs.declared.headers.Tallied.TheVariants as tallied
 use Rattle.listing.specs.declared.Listing as code
 use Rattle.listing.specs.declared.Listed.{Listed}
 use Rattle.listing.specs.declared.Listed.TheVariants as listed
-use Rattle.listing.specs.Listings.{Listing}
+use Rattle.listing.specs.Listings.{Listing, listing}
 
 -- ---- the tally
 
@@ -171,6 +171,10 @@ kept_of s l =
 unfoldable pub listed_as : List ℕ → Answer Listing → Listed
 listed_as s (refused r) = listed.Refused r
 listed_as s (given l) = listed.Listing (kept_of s l)
+
+-- what is kept of a listing is what the listing of this file finds now
+abbrev pub Fresh : List ℕ → code.Listing → Type 0
+Fresh s k = listed_as s (listing s) ≡ listed.Listing k
 
 -- check 10
 unfoldable pub chunks_as : Head → Noted → Listed
