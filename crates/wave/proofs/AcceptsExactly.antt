@@ -1,5 +1,5 @@
--- The scan accepts exactly the good files. Of an accepted file each chunk is cut out of the bytes where its row says, and
--- the chunks so cut, end to end, are the file; the way back is GoodFiles.
+-- The listing accepts exactly the files of a good shape, and the scan exactly the good files. Of a listed file each chunk is
+-- cut out of the bytes where its row says, and the chunks so cut, end to end, are the file; the way back is GoodFiles.
 -- Assumes nothing.
 use mathlib.Core.Path.{◌≡◌, refl, sym, ap, ap₂, ◌∙◌, subst}
 use mathlib.Core.Bool.{Bool, true, false}
@@ -33,13 +33,15 @@ use Rattle.truesize.proofs.Sizes.{own-true, ds64-first}
 use Rattle.truesize.proofs.Told.{size-told}
 use Rattle.fmt.specs.declared.Format.{Format}
 use Rattle.fmt.specs.Formats.{format_in}
-use Rattle.wave.specs.Scans.{payload, whole_blocks, judged, Scan}
+use Rattle.listing.specs.Listings.{Listing}
+use Rattle.listing.proofs.Checked.{Checked, listing-checked}
+use Rattle.wave.specs.Scans.{payload, whole_blocks, judged, Scan, listing_of}
 use Rattle.wave.specs.Tables.{own_field}
-use Rattle.wave.specs.Grammar.{Chunk, chunk_bytes, all_bytes, file_bytes, row_at, rows_at, Without, Ds64First, GoodChunk, GoodFile, AcceptsExactly}
+use Rattle.wave.specs.Grammar.{Chunk, chunk_bytes, all_bytes, file_bytes, row_at, rows_at, Without, Ds64First, GoodChunk, GoodShape, GoodFile, ListsExactly, AcceptsExactly}
 use Rattle.wave.proofs.Scanned.{Scanned, scan-scanned}
 use Rattle.wave.proofs.Tables.{laid-first}
 use Rattle.wave.proofs.Ds64Bytes.{entries-count, entries_fit, ds64-bytes}
-use Rattle.wave.proofs.GoodFiles.{chunk-length, good-scan}
+use Rattle.wave.proofs.GoodFiles.{chunk-length, good-listing, good-scan}
 
 -- ---- the chunk that a row says
 
@@ -100,7 +102,7 @@ module _ {rule : Rule} (s : List ℕ) (b : Bytes s) where
       (λ i. record { name = e.name; place = sym r.place i; size = n i; source = e.source })
       (ap (λ (k : ℕ). rows_at k (map (cut s) es)) to ∙ laid-rows l)
 
--- ---- an accepted file
+-- ---- a listed file
 
 riff-form : (f : Form) → is_wide f ≡ false → f ≡ Riff
 unfolding is_wide
@@ -108,28 +110,28 @@ riff-form Riff v = refl
 riff-form Rf64 v = absurd (true-false true refl v)
 riff-form Bw64 v = absurd (true-false true refl v)
 
-module _ (s : List ℕ) (b : Bytes s) (a : Scan) (t : Scanned s a) where
+module _ (s : List ℕ) (b : Bytes s) (l : Listing) (t : Checked s l) where
   abbrev form : Form
-  form = a.head.form
+  form = l.head.form
 
   abbrev ks : List Ds64Entry
-  ks = entries_of a.head s
+  ks = entries_of l.head s
 
   abbrev rule : Rule
-  rule = true_size a.head ks
+  rule = true_size l.head ks
 
-  abbrev o : Opened s a.head
-  o = t.listed.opened
+  abbrev o : Opened s l.head
+  o = t.opened
 
-  abbrev laid : Laid rule s 12 a.rows
-  laid = t.listed.laid
+  abbrev laid : Laid rule s 12 l.rows
+  laid = t.laid
 
   abbrev cs : List Chunk
-  cs = map (cut s) a.rows
+  cs = map (cut s) l.rows
 
   -- what holds of the chunk of each row holds of each chunk
-  of-rows : (P : Chunk → Type 0) → ((e : Entry) → Memᴰ e a.rows → P (cut s e)) → (c : Chunk) → Memᴰ c cs → P c
-  of-rows P f c m = let r = Memᴰ.of_map (cut s) a.rows m in subst P r.2 (f r.0 r.1)
+  of-rows : (P : Chunk → Type 0) → ((e : Entry) → Memᴰ e l.rows → P (cut s e)) → (c : Chunk) → Memᴰ c cs → P c
+  of-rows P f c m = let r = Memᴰ.of_map (cut s) l.rows m in subst P r.2 (f r.0 r.1)
 
   -- ---- the header
 
@@ -143,8 +145,8 @@ module _ (s : List ℕ) (b : Bytes s) (a : Scan) (t : Scanned s a) where
       (number-then 4 8 s b (omega (arith, o.long))
       ∙ ap₂ (λ (v : ℕ) (l : List ℕ). bytes 4 v ++ l) o.wave (laid-bytes s b laid)))
 
-  riff-is : is_wide form ≡ false → (number 4 4 s ≡ ONES → ⊥) × (a.head ≡ record { form = Riff; ds64 = no_ds64 })
-  riff-is v = riff-head s a.head (subst (λ (f : Form). head_as f s ≡ given a.head) (riff-form form v) o.head)
+  riff-is : is_wide form ≡ false → (number 4 4 s ≡ ONES → ⊥) × (l.head ≡ record { form = Riff; ds64 = no_ds64 })
+  riff-is v = riff-head s l.head (subst (λ (f : Form). head_as f s ≡ given l.head) (riff-form form v) o.head)
 
   form-wide : number 4 4 s ≡ ONES → (x : Bool) → is_wide form ≡ x → is_wide form ≡ true
   form-wide k true w = w
@@ -152,49 +154,49 @@ module _ (s : List ℕ) (b : Bytes s) (a : Scan) (t : Scanned s a) where
 
   -- ---- each chunk
 
-  chunk-good : (e : Entry) → Memᴰ e a.rows → GoodChunk form a.head.ds64 ks (cut s e)
+  chunk-good : (e : Entry) → Memᴰ e l.rows → GoodChunk form l.head.ds64 ks (cut s e)
   unfolding own_field
   chunk-good e m =
       let r = laid-lies laid m in
       let n = payload-length s e r.ends in
-      let w = t.listed.chunked in
+      let w = t.chunked in
       record {
         name_fits = subst (λ (k : ℕ). k < 256 ^ 4) r.named (number_bound 4 (e.place - 8) s b);
         field_fits = number_bound 4 (e.place - 4) s b;
         padded = pad-length s e r.ends ∙ ap (λ (k : ℕ). k % 2) (sym n);
         sized =
-            subst (λ (k : ℕ). Told form a.head.ds64 ks e.name (own_field s e) (record { bytes = k; source = e.source })) (sym n)
-            (size-told a.head ks (e.place - 8) e.name (own_field s e) (row-size e) r.sized);
+            subst (λ (k : ℕ). Told form l.head.ds64 ks e.name (own_field s e) (record { bytes = k; source = e.source })) (sym n)
+            (size-told l.head ks (e.place - 8) e.name (own_field s e) (row-size e) r.sized);
         fact = λ p.
-            let f = ap (λ (x : Entry). x.size) (only FACT a.rows e w.fact m p) in
-            let h = w.fact_holds (λ z. omega (arith, z, counted FACT a.rows e m p)) in
+            let f = ap (λ (x : Entry). x.size) (only FACT l.rows e w.fact m p) in
+            let h = w.fact_holds (λ z. omega (arith, z, counted FACT l.rows e m p)) in
             omega (arith, f, h, n);
       }
 
   -- ---- ds64
 
   -- a row of that name is the first of a 64-bit form
-  ds64-row : (e : Entry) → Memᴰ e a.rows → e.name ≡ DS64 → (is_wide form ≡ true) × (e.place ≡ 20)
+  ds64-row : (e : Entry) → Memᴰ e l.rows → e.name ≡ DS64 → (is_wide form ≡ true) × (e.place ≡ 20)
   ds64-row e m p =
       let r = laid-lies laid m in
-      let c = ds64-first a.head ks (e.place - 8) e.name (own_field s e) (row-size e) (unfold own_field in r.sized) p in
+      let c = ds64-first l.head ks (e.place - 8) e.name (own_field s e) (row-size e) (unfold own_field in r.sized) p in
       (c.0, omega (arith, c.1, r.after))
 
-  ds64-is : is_wide form ≡ true → Ds64First a.head.ds64 ks cs
+  ds64-is : is_wide form ≡ true → Ds64First l.head.ds64 ks cs
   unfolding ds64_at entries_of payload own_field past Without
   ds64-is w =
-      let h = wide-head form s a.head w o.head in
+      let h = wide-head form s l.head w o.head in
       let r = ds64-rules (length s) (number 4 12 s) (number 4 16 s) (number 4 44 s) h.0 in
-      let f = laid-first a.rows laid (omega (arith, r.ends)) in
+      let f = laid-first l.rows laid (omega (arith, r.ends)) in
       subst (λ (d : Ds64). Ds64First d (entries_in d.count (drop (20 + LEAST) s)) cs) (sym (ap (λ (x : Head). x.ds64) h.1))
       (gather r f.0 f.1 f.2 f.3 f.4)
     where
       gather : Ds64Rules (length s) (number 4 12 s) (number 4 16 s) (number 4 44 s) → (e : Entry) (es : List Entry)
-          → a.rows ≡ e ∷ es → Row rule s 12 e → Laid rule s (past e) es
+          → l.rows ≡ e ∷ es → Row rule s 12 e → Laid rule s (past e) es
           → Ds64First (ds64_at s) (entries_in (number 4 44 s) (drop (20 + LEAST) s)) cs
-      gather r e es is row l =
+      gather r e es is row later =
           let size : e.size ≡ number 4 16 s =
-          own-true a.head ks 12 e.name (number 4 16 s) _ row.sized r.sized in
+          own-true l.head ks 12 e.name (number 4 16 s) _ row.sized r.sized in
           let p = ds64-bytes e.size s b (omega (arith, size, r.holds)) (omega (arith, size, r.ends)) in
           record {
             first = cut s e;
@@ -205,7 +207,7 @@ module _ (s : List ℕ) (b : Bytes s) (a : Scan) (t : Scanned s a) where
                 let x = Memᴰ.of_map (cut s) es m in
                 let z = ds64-row x.0 (subst (λ (rows : List Entry). Memᴰ x.0 rows) (sym is) (Memᴰ.tail x.1))
                 (ap (λ (y : Chunk). y.name) x.2 ∙ q) in
-                omega (arith, z.1, (laid-lies l x.1).after, row.place);
+                omega (arith, z.1, (laid-lies later x.1).after, row.place);
             sized = λ k. r.sized (ap (λ (j : ℕ). number 4 (j - 4) s) (sym row.place) ∙ k);
             more = p.0;
             payload = ap (λ (j : ℕ). field e.size j s) row.place ∙ p.1;
@@ -215,7 +217,7 @@ module _ (s : List ℕ) (b : Bytes s) (a : Scan) (t : Scanned s a) where
             entries_fit = entries_fit (number 4 44 s) (drop (20 + LEAST) s) (Bytes-drop (20 + LEAST) s b);
           }
 
-  riff-none : is_wide form ≡ false → (a.head.ds64 ≡ no_ds64) × (ks ≡ []) × Without DS64 cs
+  riff-none : is_wide form ≡ false → (l.head.ds64 ≡ no_ds64) × (ks ≡ []) × Without DS64 cs
   unfolding entries_of entries_in no_ds64 Without
   riff-none v =
       let h = (riff-is v).1 in (
@@ -224,37 +226,26 @@ module _ (s : List ℕ) (b : Bytes s) (a : Scan) (t : Scanned s a) where
         of-rows (λ (c : Chunk). c.name ≡ DS64 → ⊥) (λ e m p. true-false (is_wide form) (ds64-row e m p).0 v),
       )
 
-  -- ---- checks 11 and 12
+  -- ---- the shape
 
-  format-is : (format_in (payload (find FMT a.rows) s) ≡ given a.format) × ((find DATA a.rows).size % a.format.block ≡ 0)
-  unfolding judged whole_blocks
-  format-is =
-      let c = and_then-given (format_in (payload (find FMT a.rows) s)) _ a.format t.format in
-      let w = check-given (eqb ((find DATA a.rows).size % c.0.block) 0) _ _ a.format c.2 in
-      let f : c.0 ≡ a.format = given-inj c.0 a.format w.1 in (
-        c.1 ∙ ap given f,
-        ap (λ (x : Format). (find DATA a.rows).size % x.block) (sym f) ∙ eqb-true _ _ w.0,
-      )
-
-  scanned-good : GoodFile s a
-  scanned-good =
-      let w = t.listed.chunked in
-      let is = format-is in
+  checked-good : GoodShape s l
+  checked-good =
+      let w = t.chunked in
       record {
         field = number 4 4 s;
         chunks = cs;
         is = file-is;
         fits = number_bound 4 4 s b;
-        own = λ k. ap (λ (n : ℕ). 8 + n) (sym (form-own a.head (number 4 4 s) k)) ∙ o.whole;
+        own = λ k. ap (λ (n : ℕ). 8 + n) (sym (form-own l.head (number 4 4 s) k)) ∙ o.whole;
         ones = λ k. (
           form-wide k (is_wide form) refl,
-          ap (λ (n : ℕ). 8 + n) (sym (form-ones a.head) ∙ ap (form_size a.head) (sym k)) ∙ o.whole,
+          ap (λ (n : ℕ). 8 + n) (sym (form-ones l.head) ∙ ap (form_size l.head) (sym k)) ∙ o.whole,
         );
         entries = ks;
         wide = ds64-is;
         riff = riff-none;
-        good = of-rows (GoodChunk form a.head.ds64 ks) chunk-good;
-        most = omega (arith, length-map a.rows (cut s), t.listed.few);
+        good = of-rows (GoodChunk form l.head.ds64 ks) chunk-good;
+        most = omega (arith, length-map l.rows (cut s), t.few);
         rows = sym (laid-rows s b laid);
         one_fmt = w.one_fmt;
         one_data = w.one_data;
@@ -262,18 +253,64 @@ module _ (s : List ℕ) (b : Bytes s) (a : Scan) (t : Scanned s a) where
         bext = w.bext;
         chna = w.chna;
         fact = w.fact;
-        format =
-            of-rows (λ (c : Chunk). c.name ≡ FMT → format_in c.payload ≡ given a.format)
-            (λ e m p.
-            ap (λ (x : Entry). format_in (payload x s)) (only FMT a.rows e (omega (arith, w.one_fmt)) m p) ∙ is.0);
-        blocks =
-            of-rows (λ (c : Chunk). c.name ≡ DATA → length c.payload % a.format.block ≡ 0)
-            (λ e m p.
-            ap (λ (n : ℕ). n % a.format.block)
-            (payload-length s e (laid-lies laid m).ends
-            ∙ ap (λ (x : Entry). x.size) (only DATA a.rows e (omega (arith, w.one_data)) m p))
-            ∙ is.1);
       }
+
+-- ---- checks 11 and 12
+
+format-is : (s : List ℕ) (a : Scan) → Scanned s a
+    → (format_in (payload (find FMT a.rows) s) ≡ given a.format) × ((find DATA a.rows).size % a.format.block ≡ 0)
+unfolding judged whole_blocks
+format-is s a t =
+    let c = and_then-given (format_in (payload (find FMT a.rows) s)) _ a.format t.format in
+    let w = check-given (eqb ((find DATA a.rows).size % c.0.block) 0) _ _ a.format c.2 in
+    let f : c.0 ≡ a.format = given-inj c.0 a.format w.1 in (
+      c.1 ∙ ap given f,
+      ap (λ (x : Format). (find DATA a.rows).size % x.block) (sym f) ∙ eqb-true _ _ w.0,
+    )
+
+scanned-good : (s : List ℕ) → Bytes s → (a : Scan) → Scanned s a → GoodFile s a
+unfolding checked-good
+scanned-good s b a t =
+    let l = t.listed in
+    let w = l.chunked in
+    let is = format-is s a t in
+    let k = checked-good s b (listing_of a) l in
+    record {
+      field = k.field;
+      chunks = k.chunks;
+      is = k.is;
+      fits = k.fits;
+      own = k.own;
+      ones = k.ones;
+      entries = k.entries;
+      wide = k.wide;
+      riff = k.riff;
+      good = k.good;
+      most = k.most;
+      rows = k.rows;
+      one_fmt = k.one_fmt;
+      one_data = k.one_data;
+      fmt_first = k.fmt_first;
+      bext = k.bext;
+      chna = k.chna;
+      fact = k.fact;
+      format =
+          of-rows s b (listing_of a) l (λ (c : Chunk). c.name ≡ FMT → format_in c.payload ≡ given a.format)
+          (λ e m p.
+          ap (λ (x : Entry). format_in (payload x s)) (only FMT a.rows e (omega (arith, w.one_fmt)) m p) ∙ is.0);
+      blocks =
+          of-rows s b (listing_of a) l (λ (c : Chunk). c.name ≡ DATA → length c.payload % a.format.block ≡ 0)
+          (λ e m p.
+          ap (λ (n : ℕ). n % a.format.block)
+          (payload-length s e (laid-lies l.laid m).ends
+          ∙ ap (λ (x : Entry). x.size) (only DATA a.rows e (omega (arith, w.one_data)) m p))
+          ∙ is.1);
+    }
+
+-- The listing accepts exactly the files of a good shape.
+pub lists-exactly : ListsExactly
+unfolding ListsExactly
+lists-exactly s b l = (λ e. checked-good s b l (listing-checked s l e), good-listing s l)
 
 -- The scan accepts exactly the good files.
 pub accepts-exactly : AcceptsExactly

@@ -26,10 +26,14 @@ use Rattle.form.specs.declared.Head.{Head}
 use Rattle.form.specs.Forms.{ds64_at, whole_form, open_for32, ENTRIES, LEAST, ENTRY}
 use Rattle.form.proofs.Heads.{Opened, wide-head, ds64-rules}
 use Rattle.truesize.specs.Code.{EntriesFit}
-use Rattle.listing.specs.Listings.{headers}
-use Rattle.wave.specs.Scans.{Scan, scan, rows_of, walk_from, walk32}
-use Rattle.wave.specs.Words.{scan_table, ScanDone, walk_table, WalkDone}
-use Rattle.wave.specs.Code.{WalkStored, Fills}
+use Rattle.listing.specs.declared.Listing as code
+use Rattle.listing.specs.Listings.{Listing, headers, listing}
+use Rattle.listing.specs.Code.{kept_of, Fresh}
+use Rattle.listing.proofs.Checked.{listing-checked}
+use Rattle.listing.proofs.Listings.{keeps}
+use Rattle.wave.specs.Scans.{Scan, scan, rows_of, listed_rows, walk_from, walk32}
+use Rattle.wave.specs.Words.{scan_table, ScanDone, list_table, ListDone, walk_table, WalkDone}
+use Rattle.wave.specs.Code.{WalkStored, Ended, Fills}
 use Rattle.wave.proofs.Scanned.{scan-scanned}
 use Rattle.wave.proofs.Stored.{none-tabled}
 
@@ -67,6 +71,37 @@ accepted-fills s w h n a l e p q =
       count = q ∙ sym (ap (λ (x : Walked). length x.rows) k);
       room = l;
     })
+
+-- ---- and so can a listed one
+
+module _ (s : List ℕ) (k : code.Listing) (f : Fresh s k) where
+  pub fresh-headers : headers k.head s ≡ record { rows = (keeps s k f).listing.rows; end = Accepted }
+  unfolding headers kept_of
+  fresh-headers =
+      let l = listing-checked s (keeps s k f).listing (keeps s k f).is in
+      ap (λ (x : code.Listing). headers x.head s) (keeps s k f).kept ∙ laid-walk LIMIT l.laid l.few
+
+  pub fresh-ended : Ended k.head s k.count
+  unfolding kept_of
+  fresh-ended =
+      let o = (listing-checked s (keeps s k f).listing (keeps s k f).is).opened in
+      let h = ap (λ (x : code.Listing). x.head) (keeps s k f).kept in
+      record {
+        fit = subst (λ (x : Head). EntriesFit x s) (sym h) (entries_fit s (keeps s k f).listing.head o);
+        end = ap (λ (x : Walked). x.end) fresh-headers;
+        count = ap (λ (x : code.Listing). x.count) (keeps s k f).kept ∙ sym (ap (λ (x : Walked). length x.rows) fresh-headers);
+      }
+
+  pub fresh-fills : (w : List ℕ) → WORDS ≤ length w → Fills k.head s k.count w
+  fresh-fills w l =
+      let e = fresh-ended in
+      record {
+        long = (listing-checked s (keeps s k f).listing (keeps s k f).is).opened.long;
+        fit = e.fit;
+        end = e.end;
+        count = e.count;
+        room = l;
+      }
 
 -- ---- the table of no chunks
 
@@ -109,6 +144,43 @@ pub scan-value : (s v : List ℕ) (r : Verdict) (t : Table) → t ≡ table_of [
 unfolding scan_table table_of pick
 scan-value s v r t p d =
     let z : ScanDone s (replicate WORDS 0) r v = subst (λ (w : List ℕ). ScanDone s w r v) (empty-words t p) d in
+    λ i. record { table = record { words = z.words i }; verdict = z.verdict i }
+
+-- ---- the listing
+
+module _ (s w : List ℕ) where
+  pub list-short : length w < WORDS → ListDone s w (Refused ShortOutput) w
+  list-short h =
+      let e = lt-leb WORDS (length w) h in
+      record { verdict = sym (pick-false _ _ _ e); words = sym (pick-false _ _ _ e) }
+
+  pub list_refused : (r : Refusal) → WORDS ≤ length w → listing s ≡ refused r → ListDone s w (Refused r) (set w 0 0)
+  unfolding verdict_of listed_rows
+  list_refused r h q =
+      let e = le-leb WORDS (length w) h in
+      record {
+        verdict = sym (pick_true _ _ _ e ∙ ap verdict_of q);
+        words = none-tabled w (omega arith) ∙ sym (pick_true _ _ _ e ∙ ap (λ (x : Answer Listing). tabled (listed_rows x) w) q);
+      }
+
+  pub list-listed : (k : code.Listing) (v : List ℕ) → WORDS ≤ length w → Fresh s k → v ≡ tabled (headers k.head s).rows w
+      → ListDone s w Accepted v
+  unfolding verdict_of listed_rows
+  list-listed k v h f d =
+      let e = le-leb WORDS (length w) h in
+      let q = (keeps s k f).is in
+      record {
+        verdict = sym (pick_true _ _ _ e ∙ ap verdict_of q);
+        words =
+            d ∙ ap (λ (x : Walked). tabled x.rows w) (fresh-headers s k f)
+            ∙ sym (pick_true _ _ _ e ∙ ap (λ (x : Answer Listing). tabled (listed_rows x) w) q);
+      }
+
+pub list-value : (s v : List ℕ) (r : Verdict) (t : Table) → t ≡ table_of [] → ListDone s t.words r v
+    → record { table = record { words = v }; verdict = r } ≡ list_table s
+unfolding list_table table_of pick
+list-value s v r t p d =
+    let z : ListDone s (replicate WORDS 0) r v = subst (λ (w : List ℕ). ListDone s w r v) (empty-words t p) d in
     λ i. record { table = record { words = z.words i }; verdict = z.verdict i }
 
 -- ---- the 32-bit walk

@@ -1,4 +1,4 @@
--- Demand 3, first half: the 32-bit walk of an accepted file. Its rows are laid, so each header is met at the same offset
+-- Demand 3, first half: the 32-bit walk of a listed file. Its rows are laid, so each header is met at the same offset
 -- by both walks; where the own field is not all ones it is the true size by either rule, and where it is the 32-bit walk
 -- stops with 7.
 -- Assumes nothing.
@@ -23,15 +23,18 @@ use Rattle.chunk.specs.Fields.{ONES}
 use Rattle.chunk.specs.Walks.{Rule, past, Walked, walk, field_size, own_size}
 use Rattle.chunk.proofs.Checks.{pick_true, pick-false}
 use Rattle.chunk.proofs.Laid.{Row, Laid, done, next, row_fits, step_end, step_row, step-refused, walk-stop, walk-chunk, own-ones, own-given, own-only, walk-sources}
+use Rattle.form.specs.declared.Head.{Head}
 use Rattle.form.specs.Forms.{open_for32}
 use Rattle.form.proofs.Heads.{opened-32}
 use Rattle.truesize.specs.Sizes.{true_size, entries_of}
 use Rattle.truesize.proofs.Sizes.{own_is}
 use Rattle.chunk.specs.Tables.{LIMIT}
-use Rattle.wave.specs.Scans.{Scan, scan, walk_from, walk32}
+use Rattle.listing.specs.Listings.{Listing, listing}
+use Rattle.wave.specs.Scans.{Scan, listing_of, scan, walk_from, walk32}
 use Rattle.wave.specs.Tables.{own_field}
-use Rattle.wave.specs.Demand3.{ahead, stop, SaysOwn, Sized, FirstHalf}
-use Rattle.wave.proofs.Scanned.{scan-scanned}
+use Rattle.wave.specs.Demand3.{ahead, stop, SaysOwn, Sized, FirstHalf, ListHalf}
+use Rattle.listing.proofs.Checked.{listing-checked}
+use Rattle.wave.proofs.Scanned.{scan-listed}
 
 -- ---- the rows ahead, and the end
 
@@ -123,16 +126,16 @@ shown-whole s [] h = refl
 shown-whole s (x ∷ xs) h =
     shown-sized s x xs (h x (Memᴰ.head refl)) ∙ ap (after x) (shown-whole s xs (λ y m. h y (Memᴰ.tail m)))
 
-true-plain : (s : List ℕ) (a : Scan) → Plain (true_size a.head (entries_of a.head s))
+true-plain : (s : List ℕ) (h : Head) → Plain (true_size h (entries_of h s))
 unfolding Plain
-true-plain s a at name own t e = own_is a.head (entries_of a.head s) at name own t e
+true-plain s h at name own t e = own_is h (entries_of h s) at name own t e
 
-scan-walk : (s : List ℕ) (a : Scan) → scan s ≡ given a → walk32 s ≡ shown s a.rows
+list-walk : (s : List ℕ) (l : Listing) → listing s ≡ given l → walk32 s ≡ shown s l.rows
 unfolding walk32 walk_from
-scan-walk s a e =
-    let l = (scan-scanned s a e).listed in
-    ap (λ (x : Answer ℕ). walk_from x s) (opened-32 s a.head l.opened)
-    ∙ laid-own (true_size a.head (entries_of a.head s)) (true-plain s a) LIMIT l.laid l.few
+list-walk s l e =
+    let c = listing-checked s l e in
+    ap (λ (x : Answer ℕ). walk_from x s) (opened-32 s l.head c.opened)
+    ∙ laid-own (true_size l.head (entries_of l.head s)) (true-plain s l.head) LIMIT c.laid c.few
 
 -- the 32-bit walk says own field of every file
 pub says-own : (s : List ℕ) → SaysOwn s
@@ -144,11 +147,17 @@ says-own s e m = go (open_for32 s) m
     go (given at) k =
         walk-sources own_size (λ (x : Source). x ≡ Own) (λ at name own t p. ap (λ (x : TrueSize). x.source) (own-only at name own t p)) s LIMIT at e k
 
--- Demand 3, first half.
+-- Demand 3, first half, of every listed file.
+pub list-half : (s : List ℕ) (l : Listing) → listing s ≡ given l → ListHalf s l.rows
+list-half s l e =
+    record {
+      stops = λ xs x ys h k o. list-walk s l e ∙ ap (shown s) h ∙ shown-split s xs x ys k o;
+      whole = λ h. list-walk s l e ∙ shown-whole s l.rows h;
+      walk = list-walk s l e;
+    }
+
+-- So of every accepted one.
 pub first-half : (s : List ℕ) (a : Scan) → scan s ≡ given a → FirstHalf s a
 first-half s a e =
-    record {
-      stops = λ xs x ys h k o. scan-walk s a e ∙ ap (shown s) h ∙ shown-split s xs x ys k o;
-      whole = λ h. scan-walk s a e ∙ shown-whole s a.rows h;
-      walk = scan-walk s a e;
-    }
+    let h = list-half s (listing_of a) (scan-listed s a e) in
+    record { stops = h.stops; whole = h.whole; walk = h.walk }

@@ -1,5 +1,5 @@
--- A good file is accepted, with its table: its chunks stand where the lengths before them say, so that their rows are laid
--- in it by the scan's rule, and each check of the scan is a rule of the grammar.
+-- A file of a good shape is listed and a good one accepted, with its table: its chunks stand where the lengths before them
+-- say, so that their rows are laid in it by the listing's rule, and each check is a rule of the grammar.
 -- Assumes nothing.
 use mathlib.Core.Path.{◌≡◌, refl, sym, ap, ◌∙◌, subst}
 use mathlib.Core.Bool.{Bool, true, false, not}
@@ -33,9 +33,10 @@ use Rattle.truesize.specs.Sizes.{Ds64Entry, entries_in, entries_of, stray_ds64, 
 use Rattle.truesize.proofs.Sizes.{other-placed, first-placed}
 use Rattle.fmt.specs.declared.Format.{Format}
 use Rattle.fmt.specs.Formats.{format_in}
-use Rattle.wave.specs.Scans.{payload, whole_blocks, judged, Scan, scan}
-use Rattle.wave.specs.Grammar.{Chunk, chunk_bytes, all_bytes, file_bytes, ds64_bytes, size_of, row_at, rows_at, Without, Ds64First, GoodFile}
-use Rattle.listing.proofs.Checked.{Chunked}
+use Rattle.listing.specs.Listings.{Listing, listing}
+use Rattle.wave.specs.Scans.{payload, whole_blocks, judged, judged_in, Scan, listing_of, scan}
+use Rattle.wave.specs.Grammar.{Chunk, chunk_bytes, all_bytes, file_bytes, ds64_bytes, size_of, row_at, rows_at, Without, Ds64First, GoodShape, GoodFile}
+use Rattle.listing.proofs.Checked.{Chunked, Checked, checked-listing}
 use Rattle.wave.proofs.Scanned.{scanned-scan}
 use Rattle.wave.proofs.Ds64Bytes.{ds64-length, ds64-read}
 
@@ -164,12 +165,12 @@ not_wide Riff = inl refl
 not_wide Rf64 = inr refl
 not_wide Bw64 = inr refl
 
-module _ (s : List ℕ) (a : Scan) (g : GoodFile s a) where
+module _ (s : List ℕ) (l : Listing) (g : GoodShape s l) where
   abbrev form : Form
-  form = a.head.form
+  form = l.head.form
 
   abbrev rule : Rule
-  rule = true_size a.head (entries_of a.head s)
+  rule = true_size l.head (entries_of l.head s)
 
   fits_all : (c : Chunk) → Memᴰ c g.chunks → Fits c
   fits_all c m = let k = g.good c m in record { name = k.name_fits; own = k.field_fits; padded = k.padded }
@@ -208,14 +209,14 @@ module _ (s : List ℕ) (a : Scan) (g : GoodFile s a) where
   -- ---- ds64
 
   module _ (w : is_wide form ≡ true) where
-    abbrev f : Ds64First a.head.ds64 g.entries g.chunks
+    abbrev f : Ds64First l.head.ds64 g.entries g.chunks
     f = g.wide w
 
     first-mem : Memᴰ f.first g.chunks
-    first-mem = subst (λ (l : List Chunk). Memᴰ f.first l) (sym f.is) (Memᴰ.head refl)
+    first-mem = subst (λ (cs : List Chunk). Memᴰ f.first cs) (sym f.is) (Memᴰ.head refl)
 
     later-mem : (c : Chunk) → Memᴰ c f.later → Memᴰ c g.chunks
-    later-mem c m = subst (λ (l : List Chunk). Memᴰ c l) (sym f.is) (Memᴰ.tail m)
+    later-mem c m = subst (λ (cs : List Chunk). Memᴰ c cs) (sym f.is) (Memᴰ.tail m)
 
     first-stands : Stands s 12 f.first (all_bytes f.later)
     unfolding all_bytes
@@ -223,20 +224,20 @@ module _ (s : List ℕ) (a : Scan) (g : GoodFile s a) where
         let k = fits_all f.first first-mem in
         stands s 12 f.first (all_bytes f.later) k.name k.own (header.rest ∙ ap all_bytes f.is)
 
-    -- its numbers and its entries are what the scan reads
-    numbers-are : (ds64_at s ≡ a.head.ds64) × (entries_of a.head s ≡ g.entries)
+    -- its numbers and its entries are what the listing reads
+    numbers-are : (ds64_at s ≡ l.head.ds64) × (entries_of l.head s ≡ g.entries)
     unfolding entries_of
     numbers-are =
-        let d : Ds64 = a.head.ds64 in
+        let d : Ds64 = l.head.ds64 in
         let end : List ℕ = f.first.pad ++ all_bytes f.later in
         let r = ds64-read s d g.entries (f.more ++ end) f.fits (omega (arith, f.few)) f.entries_fit
-        (first-stands.payload ∙ ap (λ (l : List ℕ). l ++ end) f.payload ∙ append_assoc (ds64_bytes d g.entries) f.more end) in
+        (first-stands.payload ∙ ap (λ (x : List ℕ). x ++ end) f.payload ∙ append_assoc (ds64_bytes d g.entries) f.more end) in
         (r.0, ap (λ (n : ℕ). entries_in n (drop 48 s)) f.counts ∙ r.1)
 
     ds64-good : ds64_good (length s) (number 4 12 s) (number 4 16 s) (number 4 44 s) ≡ true
     unfolding ds64_at
     ds64-good =
-        let d : Ds64 = a.head.ds64 in
+        let d : Ds64 = l.head.ds64 in
         let st = first-stands in
         let size : number 4 16 s ≡ length f.first.payload = st.owned ∙ ((g.good f.first first-mem).sized.plain f.sized).0 in
         let count : number 4 44 s ≡ length g.entries = ap (λ (x : Ds64). x.count) numbers-are.0 ∙ f.counts in
@@ -253,17 +254,17 @@ module _ (s : List ℕ) (a : Scan) (g : GoodFile s a) where
 
   -- ---- checks 1 to 5
 
-  head-is : head_as form s ≡ given a.head
+  head-is : head_as form s ≡ given l.head
   unfolding head_as wide_as is_wide
   head-is = go form refl
     where
-      wide : (x : Form) → form ≡ x → is_wide x ≡ true → head_as x s ≡ given a.head
+      wide : (x : Form) → form ≡ x → is_wide x ≡ true → head_as x s ≡ given l.head
       wide x e w =
           let v : is_wide form ≡ true = ap is_wide e ∙ w in
           head-wide x s w (ds64-good v)
           ∙ ap given (λ i. record { form = sym e i; ds64 = (numbers-are v).0 i })
 
-      go : (x : Form) → form ≡ x → head_as x s ≡ given a.head
+      go : (x : Form) → form ≡ x → head_as x s ≡ given l.head
       go Riff e =
           let v : is_wide form ≡ false = ap is_wide e in
           check-true (not (eqb (number 4 4 s) ONES)) Unfinished _
@@ -272,18 +273,18 @@ module _ (s : List ℕ) (a : Scan) (g : GoodFile s a) where
       go Rf64 e = wide Rf64 e refl
       go Bw64 e = wide Bw64 e refl
 
-  whole : 8 + form_size a.head (number 4 4 s) ≡ length s
-  whole = ap (λ (k : ℕ). 8 + form_size a.head k) header.own ∙ go (eqb g.field ONES) refl
+  whole : 8 + form_size l.head (number 4 4 s) ≡ length s
+  whole = ap (λ (k : ℕ). 8 + form_size l.head k) header.own ∙ go (eqb g.field ONES) refl
     where
-      go : (b : Bool) → eqb g.field ONES ≡ b → 8 + form_size a.head g.field ≡ length s
+      go : (b : Bool) → eqb g.field ONES ≡ b → 8 + form_size l.head g.field ≡ length s
       go true e =
           let o = eqb-true g.field ONES e in
-          ap (λ (k : ℕ). 8 + form_size a.head k) o ∙ ap (λ (k : ℕ). 8 + k) (form-ones a.head) ∙ (g.ones o).1
+          ap (λ (k : ℕ). 8 + form_size l.head k) o ∙ ap (λ (k : ℕ). 8 + k) (form-ones l.head) ∙ (g.ones o).1
       go false e =
           let o = eqb-false g.field ONES e in
-          ap (λ (k : ℕ). 8 + k) (form-own a.head g.field o) ∙ g.own o
+          ap (λ (k : ℕ). 8 + k) (form-own l.head g.field o) ∙ g.own o
 
-  opened : Opened s a.head
+  opened : Opened s l.head
   opened =
       record {
         long = header.long;
@@ -296,11 +297,11 @@ module _ (s : List ℕ) (a : Scan) (g : GoodFile s a) where
 
   -- ---- the rows
 
-  entries-are : entries_of a.head s ≡ g.entries
+  entries-are : entries_of l.head s ≡ g.entries
   unfolding entries_of entries_in no_ds64
   entries-are = go (not_wide form)
     where
-      go : (is_wide form ≡ false) ⊎ (is_wide form ≡ true) → entries_of a.head s ≡ g.entries
+      go : (is_wide form ≡ false) ⊎ (is_wide form ≡ true) → entries_of l.head s ≡ g.entries
       go (inl v) =
           let r = g.riff v in
           ap (λ (d : Ds64). entries_in d.count (drop 48 s)) r.0 ∙ sym r.1
@@ -309,10 +310,10 @@ module _ (s : List ℕ) (a : Scan) (g : GoodFile s a) where
   size-known : (p : ℕ) (c : Chunk) → Memᴰ c g.chunks → stray_ds64 form p c.name ≡ false
       → rule p c.name c.field ≡ given (size_of c)
   size-known p c m h =
-      ap (λ (ks : List Ds64Entry). true_size a.head ks p c.name c.field) entries-are
-      ∙ told-size a.head g.entries p c.name c.field (size_of c) h (g.good c m).sized
+      ap (λ (ks : List Ds64Entry). true_size l.head ks p c.name c.field) entries-are
+      ∙ told-size l.head g.entries p c.name c.field (size_of c) h (g.good c m).sized
 
-  laid : Laid rule s 12 a.rows
+  laid : Laid rule s 12 l.rows
   unfolding rows_at Without
   laid = subst (Laid rule s 12) (sym g.rows) (go (not_wide form))
     where
@@ -323,22 +324,22 @@ module _ (s : List ℕ) (a : Scan) (g : GoodFile s a) where
       go (inr w) =
           let d = g.wide w in
           let st = first-stands w in
-          subst (λ (l : List Chunk). Laid rule s 12 (rows_at 12 l)) (sym d.is)
+          subst (λ (cs : List Chunk). Laid rule s 12 (rows_at 12 cs)) (sym d.is)
           (laid_next (fits_all d.first (first-mem w)) st
           (size-known 12 d.first (first-mem w) (ap (stray_ds64 form 12) d.named ∙ first-placed form w))
           (laid-all rule s (12 + length (chunk_bytes d.first)) d.later st.ends st.next
           (λ c m. fits_all c (later-mem w c m))
           (λ p c m. size-known p c (later-mem w c m) (other-placed form p c.name (d.once c m)))))
 
-  -- ---- checks 10 to 12
+  -- ---- check 10
 
   -- the chunk that a name finds
-  chunk_of : (name : ℕ) → 1 ≤ count name a.rows → Of s g.chunks (find name a.rows)
+  chunk_of : (name : ℕ) → 1 ≤ count name l.rows → Of s g.chunks (find name l.rows)
   chunk_of name h =
-      row_of s 12 g.chunks (find name a.rows) header.rest fits_all
-      (subst (λ (l : List Entry). Memᴰ (find name a.rows) l) g.rows (found name a.rows h).mem)
+      row_of s 12 g.chunks (find name l.rows) header.rest fits_all
+      (subst (λ (rows : List Entry). Memᴰ (find name l.rows) rows) g.rows (found name l.rows h).mem)
 
-  chunked : Chunked a.rows
+  chunked : Chunked l.rows
   chunked =
       record {
         one_fmt = g.one_fmt;
@@ -348,19 +349,57 @@ module _ (s : List ℕ) (a : Scan) (g : GoodFile s a) where
         chna = g.chna;
         fact = g.fact;
         fact_holds = λ k.
-            let h : 1 ≤ count FACT a.rows = omega (arith, k) in
+            let h : 1 ≤ count FACT l.rows = omega (arith, k) in
             let c = chunk_of FACT h in
-            let least = (g.good c.chunk c.mem).fact (c.named ∙ (found FACT a.rows h).named) in
+            let least = (g.good c.chunk c.mem).fact (c.named ∙ (found FACT l.rows h).named) in
             omega (arith, c.sized, least);
       }
 
-  format-is : judged (payload (find FMT a.rows) s) (find DATA a.rows).size ≡ given a.format
+  rows_few : length l.rows ≤ 64
+  rows_few = omega (arith, g.most, ap length g.rows, rows-length 12 g.chunks)
+
+  good-checked : Checked s l
+  good-checked = record { opened = opened; laid = laid; few = rows_few; chunked = chunked }
+
+  -- A file of a good shape is listed, with its form and its table.
+  pub good-listing : listing s ≡ given l
+  good-listing = checked-listing s l good-checked
+
+-- ---- checks 11 and 12
+
+-- a good file has the shape of one
+abbrev pub shape_of : (s : List ℕ) (a : Scan) → GoodFile s a → GoodShape s (listing_of a)
+shape_of s a g =
+    record {
+      field = g.field;
+      chunks = g.chunks;
+      is = g.is;
+      fits = g.fits;
+      own = g.own;
+      ones = g.ones;
+      entries = g.entries;
+      wide = g.wide;
+      riff = g.riff;
+      good = g.good;
+      most = g.most;
+      rows = g.rows;
+      one_fmt = g.one_fmt;
+      one_data = g.one_data;
+      fmt_first = g.fmt_first;
+      bext = g.bext;
+      chna = g.chna;
+      fact = g.fact;
+    }
+
+module _ (s : List ℕ) (a : Scan) (g : GoodFile s a) where
+  format-is : judged_in a.rows s ≡ given a.format
   unfolding judged whole_blocks payload
   format-is =
-      let hf : 1 ≤ count FMT a.rows = omega (arith, g.one_fmt) in
-      let hd : 1 ≤ count DATA a.rows = omega (arith, g.one_data) in
-      let c = chunk_of FMT hf in
-      let d = chunk_of DATA hd in
+      let h = shape_of s a g in
+      let hf : 1 ≤ count FMT a.rows = omega (arith, h.one_fmt) in
+      let hd : 1 ≤ count DATA a.rows = omega (arith, h.one_data) in
+      let c = chunk_of s (listing_of a) h FMT hf in
+      let d = chunk_of s (listing_of a) h DATA hd in
       let size : ℕ = (find DATA a.rows).size in
       and_then-at (format_in (payload (find FMT a.rows) s)) (λ (x : Format). whole_blocks size x) a.format
       (ap format_in c.holds ∙ g.format c.chunk c.mem (c.named ∙ (found FMT a.rows hf).named))
@@ -369,11 +408,6 @@ module _ (s : List ℕ) (a : Scan) (g : GoodFile s a) where
       (ap (λ (n : ℕ). n % a.format.block) (sym d.sized)
       ∙ g.blocks d.chunk d.mem (d.named ∙ (found DATA a.rows hd).named)))
 
-  rows_few : length a.rows ≤ 64
-  rows_few = omega (arith, g.most, ap length g.rows, rows-length 12 g.chunks)
-
   -- A good file is accepted, with its form, its table and its format.
   pub good-scan : scan s ≡ given a
-  good-scan =
-      scanned-scan s a
-      (record { listed = record { opened = opened; laid = laid; few = rows_few; chunked = chunked }; format = format-is })
+  good-scan = scanned-scan s a (record { listed = good-checked s (listing_of a) (shape_of s a g); format = format-is })

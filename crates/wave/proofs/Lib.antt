@@ -1,7 +1,9 @@
 pub mod AcceptsExactly
+pub mod Compared
 pub mod Ds64Bytes
 pub mod Ends
 pub mod FirstHalf
+pub mod Freshness
 pub mod GoodFiles
 pub mod Judgements
 pub mod Scanned

@@ -10,7 +10,7 @@ use Rattle.chunk.proofs.Checks.{given-inj, and_then-given, and_then-at}
 use Rattle.fmt.specs.declared.Format.{Format}
 use Rattle.listing.specs.Listings.{Listing, listing}
 use Rattle.listing.proofs.Checked.{Checked, listing-checked, checked-listing}
-use Rattle.wave.specs.Scans.{payload, judged, Scan, scan}
+use Rattle.wave.specs.Scans.{payload, judged, Scan, listing_of, scan}
 
 pub record Scanned (s : List ℕ) (a : Scan) : Type 0 where
   pub listed : Checked s (record { head = a.head; rows = a.rows })
@@ -33,3 +33,7 @@ unfolding scan
 scanned-scan s a h =
     and_then-at (listing s) _ (record { head = a.head; rows = a.rows }) (checked-listing s _ h.listed)
     ∙ and_then-at (judged (payload (find FMT a.rows) s) (find DATA a.rows).size) _ a.format h.format
+
+-- an accepted file is listed, with the same table
+pub scan-listed : (s : List ℕ) (a : Scan) → scan s ≡ given a → listing s ≡ given (listing_of a)
+scan-listed s a e = checked-listing s (listing_of a) (scan-scanned s a e).listed

@@ -53,6 +53,11 @@ unfoldable pub examined_as : List ℕ → Answer Scan → Examined
 examined_as s (refused r) = examined.Refused r
 examined_as s (given a) = examined.Accepted (accepted_of s a)
 
+-- how an examination ends
+unfoldable pub end_of : Examined → Verdict
+end_of (examined.Accepted a) = verdict.Accepted
+end_of (examined.Refused r) = verdict.Refused r
+
 -- ---- rows into words
 
 -- a walk from byte 12 into words
@@ -88,3 +93,21 @@ pub record Fills (h : Head) (s : List ℕ) (n : ℕ) (w : List ℕ) : Type 0 whe
   pub end : (headers h s).end ≡ verdict.Accepted
   pub count : n ≡ length (headers h s).rows
   pub room : WORDS ≤ length w
+
+-- ---- rows compared with words
+
+-- a walk by a rule came to the end of the file, and there are words for its rows, which end at a word; more aren't asked for
+pub record Compares (r : Rule) (s : List ℕ) (stop : ℕ) (w : List ℕ) : Type 0 where
+  pub end : (walk r s LIMIT 12).end ≡ verdict.Accepted
+  pub stops : stop ≡ 1 + 4 * length (walk r s LIMIT 12).rows
+  pub room : stop ≤ length w
+
+pub record WideCompares (h : Head) (s : List ℕ) (stop : ℕ) (w : List ℕ) : Type 0 where
+  pub fit : EntriesFit h s
+  pub rows : Compares (rule h s) s stop w
+
+-- the listing's walk came to the end of the file with as many rows
+pub record Ended (h : Head) (s : List ℕ) (n : ℕ) : Type 0 where
+  pub fit : EntriesFit h s
+  pub end : (headers h s).end ≡ verdict.Accepted
+  pub count : n ≡ length (headers h s).rows

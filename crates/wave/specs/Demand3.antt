@@ -41,3 +41,11 @@ pub record FirstHalf (s : List ℕ) (a : Scan) : Type 0 where
   pub whole : Sized s a.rows → walk32 s ≡ record { rows = a.rows; end = Accepted }
   -- both at once, as one equation
   pub walk : walk32 s ≡ record { rows = ahead s a.rows; end = stop s a.rows }
+
+-- The same of a file that is listed, with these rows: "The 32-bit walk is also compared with every accepted listing" (document
+-- 02), also of a file that the scan refuses
+pub record ListHalf (s : List ℕ) (rows : List Entry) : Type 0 where
+  pub stops : (xs : List Entry) (e : Entry) (ys : List Entry) → rows ≡ xs ++ e ∷ ys → Sized s xs → own_field s e ≡ ONES
+      → walk32 s ≡ record { rows = xs; end = Refused UnknownSize }
+  pub whole : Sized s rows → walk32 s ≡ record { rows = rows; end = Accepted }
+  pub walk : walk32 s ≡ record { rows = ahead s rows; end = stop s rows }

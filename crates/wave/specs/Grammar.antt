@@ -1,5 +1,6 @@
 -- What a good file is, as bytes: document 01, "Shape of a file", in its words. Nothing here reads a file from header to
--- header. The last statement, which proofs/AcceptsExactly proves, says that the scan accepts these files and no others.
+-- header. The last statements, which proofs/AcceptsExactly proves, say that the scan accepts these files and no others, and the
+-- listing those that have their shape.
 use Rattle.std.specs.Prelude.{ℕ, ◌+◌, ◌%◌, ◌^◌, ◌≤◌, ◌<◌, ◌≡◌, ◌↔◌, true, false, length}
 use mathlib.Core.List.{List, [], ◌∷◌, ◌++◌, Memᴰ}
 use Rattle.le.specs.Number.{Bytes, bytes}
@@ -17,6 +18,7 @@ use Rattle.form.specs.Forms.{name_of, is_wide, no_ds64, ENTRIES}
 use Rattle.truesize.specs.Sizes.{Ds64Entry}
 use Rattle.truesize.specs.Told.{Told}
 use Rattle.fmt.specs.Formats.{format_in}
+use Rattle.listing.specs.Listings.{Listing, listing}
 use Rattle.wave.specs.Scans.{Scan, scan}
 
 -- ---- the bytes
@@ -110,6 +112,35 @@ pub record GoodChunk (form : Form) (d : Ds64) (ks : List Ds64Entry) (c : Chunk) 
 
 -- ---- the file
 
+-- These bytes have the shape of a file, of this form, with this ds64 and table; what its format is doesn't matter:
+pub record GoodShape (s : List ℕ) (l : Listing) : Type 0 where
+  -- the form's header, then its chunks; "nothing may trail"
+  pub field : ℕ
+  pub chunks : List Chunk
+  pub is : s ≡ file_bytes l.head.form field chunks
+  -- "True form size S must make 8 + S equal L": S is the field, and "In the 64-bit forms an all-ones form field means the
+  -- ds64 form size". L is at least 12, so that S is "at least 4".
+  pub fits : field < 256 ^ 4
+  pub own : (field ≡ ONES → ⊥) → 8 + field ≡ length s
+  pub ones : field ≡ ONES → (is_wide l.head.form ≡ true) × (8 + l.head.ds64.form_size ≡ length s)
+  -- "RF64 and BW64 must have ds64 as first chunk"; a ds64 "in RIFF, is refused", so that there its numbers are zeros
+  pub entries : List Ds64Entry
+  pub wide : is_wide l.head.form ≡ true → Ds64First l.head.ds64 entries chunks
+  pub riff : is_wide l.head.form ≡ false → (l.head.ds64 ≡ no_ds64) × (entries ≡ []) × Without DS64 chunks
+  -- each chunk is good, and "a 65th header" is refused
+  pub good : (c : Chunk) → Memᴰ c chunks → GoodChunk l.head.form l.head.ds64 entries c
+  pub most : length chunks ≤ LIMIT
+  -- "The scan's table has name, payload place and true size of each chunk, in file order"; "Every table entry should say"
+  -- where its size came from.
+  pub rows : l.rows ≡ rows_at 12 chunks
+  -- "exactly one fmt and one data, fmt first, and at most one each of bext, chna and fact"
+  pub one_fmt : count FMT l.rows ≡ 1
+  pub one_data : count DATA l.rows ≡ 1
+  pub fmt_first : (find FMT l.rows).place < (find DATA l.rows).place
+  pub bext : count BEXT l.rows ≤ 1
+  pub chna : count CHNA l.rows ≤ 1
+  pub fact : count FACT l.rows ≤ 1
+
 -- These bytes are a good file, of this form, with this ds64, table and format:
 pub record GoodFile (s : List ℕ) (a : Scan) : Type 0 where
   -- the form's header, then its chunks; "nothing may trail"
@@ -141,6 +172,10 @@ pub record GoodFile (s : List ℕ) (a : Scan) : Type 0 where
   -- the format is the record in fmt's payload; "The data size is a whole number of blocks."
   pub format : (c : Chunk) → Memᴰ c chunks → c.name ≡ FMT → format_in c.payload ≡ given a.format
   pub blocks : (c : Chunk) → Memᴰ c chunks → c.name ≡ DATA → length c.payload % a.format.block ≡ 0
+
+-- The listing accepts exactly the files of such a shape, each with exactly its form, ds64 and table.
+unfoldable pub ListsExactly : Type 0
+ListsExactly = (s : List ℕ) → Bytes s → (l : Listing) → (listing s ≡ given l) ↔ GoodShape s l
 
 -- The scan accepts exactly the good files, each with exactly its form, ds64, table and format.
 unfoldable pub AcceptsExactly : Type 0

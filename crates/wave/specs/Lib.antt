@@ -1,4 +1,5 @@
 pub mod Scans
+pub mod Judgements
 pub mod Tables
 pub mod Grammar
 pub mod Demand3

@@ -11,7 +11,7 @@ use Rattle.chunk.specs.Tables.{find, LIMIT}
 use Rattle.chunk.specs.Walks.{Walked, walk, own_size}
 use Rattle.form.specs.declared.Head.{Head}
 use Rattle.form.specs.Forms.{open_for32}
-use Rattle.listing.specs.Listings.{listing}
+use Rattle.listing.specs.Listings.{Listing, listing}
 use Rattle.fmt.specs.declared.Format.{Format}
 use Rattle.fmt.specs.Formats.{format_in}
 
@@ -31,6 +31,10 @@ unfoldable pub judged : List ℕ → ℕ → Answer Format
 unfolding and_then
 judged p size = and_then (format_in p) λ f. whole_blocks size f
 
+-- of the rows of a file: "a judgement of fmt and block size over a listing and its file" (document 02)
+abbrev pub judged_in : List Entry → List ℕ → Answer Format
+judged_in rows s = judged (payload (find FMT rows) s) (find DATA rows).size
+
 -- ---- the scan
 
 -- an accepted file: its form, its table and its format
@@ -38,6 +42,10 @@ pub record Scan : Type 0 where
   pub head : Head
   pub rows : List Entry
   pub format : Format
+
+-- the listing of an accepted file
+abbrev pub listing_of : Scan → Listing
+listing_of a = record { head = a.head; rows = a.rows }
 
 unfoldable pub scan : List ℕ → Answer Scan
 unfolding and_then
@@ -50,6 +58,11 @@ scan s =
 unfoldable pub rows_of : Answer Scan → List Entry
 rows_of (refused r) = []
 rows_of (given a) = a.rows
+
+-- and those of a listing's
+unfoldable pub listed_rows : Answer Listing → List Entry
+listed_rows (refused r) = []
+listed_rows (given l) = l.rows
 
 -- ---- the 32-bit walk
 

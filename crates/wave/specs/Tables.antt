@@ -1,4 +1,5 @@
--- What every accepted table is: the words of the statement, which proofs/Tables proves of every list of bytes.
+-- What every accepted table is, and every listed one: the words of the statements, which proofs/Tables proves of every list
+-- of bytes.
 use Rattle.std.specs.Prelude.{ℕ, ◌+◌, ◌-◌, ◌≤◌, ◌<◌, ◌≡◌, true, length}
 use mathlib.Core.List.{List, [], ◌∷◌, ◌++◌, Memᴰ}
 use Rattle.le.specs.Number.{number}
@@ -10,6 +11,7 @@ use Rattle.chunk.specs.Walks.{past}
 use Rattle.form.specs.Forms.{is_wide}
 use Rattle.truesize.specs.Sizes.{entries_of}
 use Rattle.truesize.specs.Told.{Marks}
+use Rattle.listing.specs.Listings.{Listing}
 use Rattle.wave.specs.Scans.{Scan}
 
 -- a chunk's own size field, the four bytes ahead of its payload
@@ -47,3 +49,21 @@ pub record GoodTable (s : List ℕ) (a : Scan) : Type 0 where
   pub wide : is_wide a.head.form ≡ true
       → (e : Entry) × (es : List Entry) × (a.rows ≡ e ∷ es) × (e.name ≡ DS64) × (e.place ≡ 20)
   pub ds64 : (e : Entry) → Memᴰ e a.rows → e.name ≡ DS64 → (is_wide a.head.form ≡ true) × (e.place ≡ 20)
+
+-- The same of a file that is listed, whether its format is good or not:
+pub record ListedTable (s : List ℕ) (l : Listing) : Type 0 where
+  pub most : length l.rows ≤ LIMIT
+  pub end_to_end : EndToEnd 12 l.rows (length s)
+  pub named : (e : Entry) → Memᴰ e l.rows → e.name ≡ number 4 (e.place - 8) s
+  pub inside : (e : Entry) → Memᴰ e l.rows → (20 ≤ e.place) × (past e ≤ length s)
+  pub apart : (xs : List Entry) (e : Entry) (ys : List Entry) → l.rows ≡ xs ++ e ∷ ys
+      → (f : Entry) → Memᴰ f ys → past e ≤ f.place - 8
+  pub own : (e : Entry) → Memᴰ e l.rows → (own_field s e ≡ ONES → ⊥) → e.size ≡ own_field s e
+  pub marks : (e : Entry) → Memᴰ e l.rows
+      → Marks l.head.ds64 (entries_of l.head s) e.name (own_field s e) (record { bytes = e.size; source = e.source })
+  pub one_fmt : count FMT l.rows ≡ 1
+  pub one_data : count DATA l.rows ≡ 1
+  pub fmt_first : (find FMT l.rows).place < (find DATA l.rows).place
+  pub wide : is_wide l.head.form ≡ true
+      → (e : Entry) × (es : List Entry) × (l.rows ≡ e ∷ es) × (e.name ≡ DS64) × (e.place ≡ 20)
+  pub ds64 : (e : Entry) → Memᴰ e l.rows → e.name ≡ DS64 → (is_wide l.head.form ≡ true) × (e.place ≡ 20)

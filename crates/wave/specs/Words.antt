@@ -6,8 +6,9 @@ use Rattle.chunk.specs.declared.Verdict.{Verdict}
 use Rattle.chunk.specs.declared.Verdict.TheVariants as verdict
 use Rattle.chunk.specs.Refusals.{verdict_of}
 use Rattle.chunk.specs.Tables.{tabled, table_of, WORDS}
+use Rattle.listing.specs.Listings.{listing}
 use Rattle.wave.specs.declared.Tabled.{Tabled}
-use Rattle.wave.specs.Scans.{scan, rows_of, walk32}
+use Rattle.wave.specs.Scans.{scan, rows_of, listed_rows, walk32}
 
 -- the scan by value
 unfoldable pub scan_table : List ℕ → Tabled
@@ -18,6 +19,15 @@ scan_table s = record { table = table_of (rows_of (scan s)); verdict = verdict_o
 pub record ScanDone (s w : List ℕ) (r : Verdict) (w' : List ℕ) : Type 0 where
   pub verdict : r ≡ pick (leb WORDS (length w)) (verdict_of (scan s)) (verdict.Refused ShortOutput)
   pub words : w' ≡ pick (leb WORDS (length w)) (tabled (rows_of (scan s)) w) w
+
+-- the listing by value
+unfoldable pub list_table : List ℕ → Tabled
+list_table s = record { table = table_of (listed_rows (listing s)); verdict = verdict_of (listing s) }
+
+-- the listing into words, which are as the scan's
+pub record ListDone (s w : List ℕ) (r : Verdict) (w' : List ℕ) : Type 0 where
+  pub verdict : r ≡ pick (leb WORDS (length w)) (verdict_of (listing s)) (verdict.Refused ShortOutput)
+  pub words : w' ≡ pick (leb WORDS (length w)) (tabled (listed_rows (listing s)) w) w
 
 -- the 32-bit walk by value
 unfoldable pub walk_table : List ℕ → Tabled

@@ -1,5 +1,6 @@
 // The judgement of a listing (checks 11 and 12), and the scan but for its table: the listing, then the judgement.
 ghost use Rattle.std.specs.Prelude.{◌≡◌};
+ghost use Rattle.listing.specs.Code.{Fresh};
 ghost use Rattle.wave.specs.Scans.{scan};
 ghost use Rattle.wave.specs.Code.{FmtFits, judge_of, examined_as};
 
@@ -53,6 +54,14 @@ fn judge(file: &[u8], l: Listing) -> Examined
             })
         }
     }
+}
+
+// The same for a caller that has just listed the file: nothing is compared, and 24 can't come.
+pub fn judge_fresh(file: &[u8], l: Listing) -> Examined
+    requires { Fresh file.now l }
+    ensures { result ≡ examined_as file.now (scan file.now) }
+{
+    judge(file, l)
 }
 
 // The whole scan but for the table: what is known of an accepted file, or the refusal.

@@ -1,10 +1,11 @@
-// The rows of a table, stored into lent words: the 32-bit walk's as they are met, the scan's once the file is accepted.
-ghost use Rattle.std.specs.Prelude.{◌≡◌, ◌+◌, ◌*◌, ◌≤◌, length};
-ghost use Rattle.chunk.specs.Tables.{tabled, LIMIT, WORDS};
+// The rows of a table, stored into lent words: the 32-bit walk's as they are met, the scan's once the file is accepted; and
+// those of a listed file, compared with words.
+ghost use Rattle.std.specs.Prelude.{◌≡◌, ◌+◌, ◌*◌, ◌≤◌, length, drop};
+ghost use Rattle.chunk.specs.Tables.{all_words, begins, tabled, table_words, LIMIT, WORDS};
 ghost use Rattle.chunk.specs.Walks.{own_size, walk};
 ghost use Rattle.chunk.specs.Code.{walk_after, full};
 ghost use Rattle.listing.specs.Listings.{headers};
-ghost use Rattle.wave.specs.Code.{WalkStored, Finishes, Fills, Rowed, WideRows, rows_from};
+ghost use Rattle.wave.specs.Code.{WalkStored, Finishes, Fills, Rowed, WideRows, Compares, WideCompares, Ended, rows_from};
 
 use chunk::{Refusal, Step, Table, TrueSize, Verdict};
 use form::Head;
@@ -122,4 +123,64 @@ pub fn fill(file: &[u8], head: Head, count: u64, words: &mut [u64])
         fill_own(file, stop, words);
     }
     words[0] = count;
+}
+
+// Whether words hold, past the first, the rows of a file in which every field is the size.
+fn are_own(file: &[u8], stop: usize, table: &[u64]) -> bool
+    requires { Compares own_size file.now stop table.now }
+    ensures { result ≡ begins (all_words (walk own_size file.now LIMIT 12).rows) (drop 1 table.now) }
+{
+    let mut place: u64 = 20;
+    let mut row: usize = 1;
+    while row < stop {
+        let h = chunk::steps::header(file, place);
+        let size = TrueSize::own(h.field);
+        if !chunk::is_row(table, row, chunk::steps::entry(place, h.name, size)) {
+            return false;
+        }
+        place = chunk::steps::past(place, size.bytes);
+        row += 4;
+    }
+    true
+}
+
+// The same of a 64-bit file.
+fn are_wide(file: &[u8], head: Head, stop: usize, table: &[u64]) -> bool
+    requires { WideCompares head file.now stop table.now }
+    ensures { result ≡ begins (all_words (headers head file.now).rows) (drop 1 table.now) }
+{
+    let mut place: u64 = 20;
+    let mut row: usize = 1;
+    while row < stop {
+        let h = chunk::steps::header(file, place);
+        let mut size = TrueSize::own(h.field);
+        if h.field == chunk::ONES {
+            size = truesize::known(file, head, h.name);
+        }
+        if !chunk::is_row(table, row, chunk::steps::entry(place, h.name, size)) {
+            return false;
+        }
+        place = chunk::steps::past(place, size.bytes);
+        row += 4;
+    }
+    true
+}
+
+// The table of a listed file, compared: the number of its rows, and each row. Words past the last are not looked at.
+pub fn are(file: &[u8], head: Head, count: u64, table: &[u64]) -> bool
+    requires { Ended head file.now count }
+    ensures { result ≡ begins (table_words (headers head file.now).rows) table.now }
+{
+    let stop = 1 + 4 * count as usize;
+    if table.len() < stop {
+        return false;
+    }
+    if table[0] != count {
+        return false;
+    }
+    let form = head.form;
+    if form::is_wide(form) {
+        return are_wide(file, head, stop, table);
+    }
+    are_own(file, stop, table)
 }
