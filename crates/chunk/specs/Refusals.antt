@@ -1,4 +1,4 @@
--- The refusals with document 01's numbers, and how its checks are put one after the other.
+-- The refusals with the documents' numbers, and how checks are put one after the other.
 use Rattle.std.specs.Prelude.{ℕ, Bool}
 use Rattle.le.specs.Choice.{pick}
 use Rattle.chunk.specs.declared.Refusal.{Refusal}

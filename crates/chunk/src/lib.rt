@@ -12,7 +12,7 @@ ghost use Rattle.chunk.specs.Sources.{source_number, source_of};
 ghost use Rattle.chunk.specs.Tables.{table_of, row_words, row_in, begins};
 ghost use Rattle.chunk.specs.Walks.{field_size};
 
-// Why a file or a record is refused: document 01's table, in its order.
+// Why a file, a record or a listing is refused: document 01's table, in its order, and then what document 02 adds to it.
 #[derive(Clone, Copy)]
 pub enum Refusal {
     // 1: the file has fewer than 12 bytes.

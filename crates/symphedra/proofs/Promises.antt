@@ -2,7 +2,7 @@
 -- theorems over the definitions.
 -- Assumes nothing.
 use mathlib.Core.Path.{◌≡◌, refl, sym, ◌∙◌, ap, subst}
-use mathlib.Core.Logic.{◌↔◌, inl, inr}
+use mathlib.Core.Logic.{◌↔◌, ◌⊎◌, inl, inr}
 use mathlib.Core.Bool.{Bool, true, false}
 use mathlib.Core.List.{List, [], ◌∷◌, Memᴰ}
 use Prim.Native.Nat.{ℕ, ◌≤◌, ◌<◌, ◌*◌, ◌^◌, ◌+◌}
@@ -16,10 +16,11 @@ use Rattle.le.specs.Choice.{pick}
 use Rattle.chunk.specs.declared.Entry.{Entry}
 use Rattle.chunk.specs.declared.Source.{Source}
 use Rattle.chunk.specs.declared.Source.TheVariants.{Own, DataSize, EntryAt}
-use Rattle.chunk.specs.declared.Refusal.TheVariants.{BadRecord, ShortOutput}
+use Rattle.chunk.specs.declared.Refusal.{Refusal}
+use Rattle.chunk.specs.declared.Refusal.TheVariants.{BadFmt, RaggedAudio, BadRecord, ShortOutput, StaleListing}
 use Rattle.chunk.specs.declared.Verdict.{Verdict}
 use Rattle.chunk.specs.declared.Verdict.TheVariants.{Accepted, Refused}
-use Rattle.chunk.specs.Refusals.{verdict_number, verdict_of, Answer, refused, given}
+use Rattle.chunk.specs.Refusals.{refusal_number, verdict_number, verdict_of, Answer, refused, given}
 use Rattle.chunk.specs.Names.{DATA}
 use Rattle.chunk.specs.Sources.{source_number, source_of}
 use Rattle.chunk.specs.Tables.{all_words, tabled, row_in, WORDS}
@@ -27,7 +28,7 @@ use Rattle.chunk.specs.Walks.{Walked}
 use Rattle.chunk.specs.declared.Written.{Written}
 use Rattle.chunk.specs.declared.Written.TheVariants as written
 use Rattle.chunk.specs.Writes.{written_of, written_number}
-use Rattle.chunk.proofs.Checks.{given-inj, pick_true, check-given, check-true}
+use Rattle.chunk.proofs.Checks.{given-inj, refused-inj, refused-given, pick_true, check-given, check-true}
 use Rattle.chunk.proofs.Sources.{source-back, number-back}
 use Rattle.chunk.proofs.Laid.{row-size}
 use Rattle.chunk.proofs.Filled.{table-row}
@@ -54,13 +55,18 @@ use Rattle.chna.proofs.Pads.{zeroed-length}
 use Rattle.chna.specs.Records.{chna_in, pads_zeroed, read_as as chnaRead, chna_number, chna_values, whole_of}
 use Rattle.truesize.specs.Sizes.{Ds64Entry, entries_of}
 use Rattle.truesize.specs.Told.{Marks}
-use Rattle.wave.specs.Scans.{Scan, scan, rows_of, walk32}
+use Rattle.listing.specs.Listings.{Listing, listing}
+use Rattle.wave.specs.Scans.{Scan, listing_of, scan, rows_of, listed_rows, walk32}
+use Rattle.wave.specs.Judgements.{judgement, FreshListing}
 use Rattle.wave.specs.Tables.{own_field}
 use Rattle.wave.specs.Demand3.{SaysOwn}
-use Rattle.wave.specs.Grammar.{GoodFile, AcceptsExactly}
-use Rattle.wave.proofs.Tables.{tables}
-use Rattle.wave.proofs.FirstHalf.{says-own, first-half}
-use Rattle.wave.proofs.AcceptsExactly.{accepts-exactly}
+use Rattle.wave.specs.Grammar.{GoodShape, GoodFile, ListsExactly, AcceptsExactly}
+use Rattle.wave.proofs.Tables.{list-tables, tables}
+use Rattle.wave.proofs.Scanned.{scan-listed}
+use Rattle.wave.proofs.Judgements.{scan-listing}
+use Rattle.wave.proofs.Freshness.{fresh-says, decides}
+use Rattle.wave.proofs.FirstHalf.{says-own, list-half, first-half}
+use Rattle.wave.proofs.AcceptsExactly.{lists-exactly, accepts-exactly}
 use Rattle.samples.specs.declared.Samples.{Samples}
 use Rattle.samples.specs.declared.Samples.TheVariants as samples
 use Rattle.samples.specs.Counts.{samples_of, samples_number, samples_values}
@@ -81,8 +87,8 @@ use Rattle.records.specs.Reading.{ReadsFmt, ReadsBext, PartsOf, places_of, parts
 use Rattle.records.specs.Writing.{format_of, of_nine, WritesFmt, WritesBext, WritesChna}
 use Rattle.chna.proofs.Entries.{entry-of-record, entry_stands}
 use Rattle.chna_entry.specs.Entries as chna-entry
-use Rattle.symphedra.specs.Exports.{Scans, Walks32, Upgrades, file_of, WritesFile}
-use Rattle.symphedra.specs.Promises.{Numbered, Promise1, written_in, FourthWord, Promise2, WalkPromise, UpgradePromise, Promise3}
+use Rattle.symphedra.specs.Exports.{Lists, Judges, Scans, Walks32, Upgrades, file_of, WritesFile}
+use Rattle.symphedra.specs.Promises.{Numbered, Promise1, written_in, FourthWord, InTurn, Promise2, WalkPromise, UpgradePromise, Promise3}
 
 -- ---- demand 1
 
@@ -137,6 +143,14 @@ no_rows (refused q) [] r l e h = absurd (omega (arith, l))
 no_rows (refused q) (v ∷ w) r l e h = refl
 no_rows (given a) w r l e h = absurd (h e)
 
+-- nor has a refused listing
+no_list : (x : Answer Listing) (w : List ℕ) (r : ℕ) → WORDS ≤ length w → r ≡ verdict_number (verdict_of x) → (r ≡ 0 → ⊥)
+    → tabled (listed_rows x) w ≡ sets w 0 (0 ∷ [])
+unfolding verdict_of listed_rows tabled all_words
+no_list (refused q) [] r l e h = absurd (omega (arith, l))
+no_list (refused q) (v ∷ w) r l e h = refl
+no_list (given a) w r l e h = absurd (h e)
+
 -- a refused count or reader has zeros
 zeros-samples : (x : Samples) (r : ℕ) → r ≡ samples_number x → (r ≡ 0 → ⊥) → samples_values x ≡ replicate 2 0
 unfolding samples_number samples_values
@@ -168,6 +182,8 @@ pub promise-1 : Promise1
 promise-1 =
     record {
       scan_numbered = λ s w r w' a. numbered-answer _ _ _ _ _ _ (numbered-verdict (verdict_of (scan s))) a;
+      list_numbered = λ s w r w' a. numbered-answer _ _ _ _ _ _ (numbered-verdict (verdict_of (listing s))) a;
+      judge_numbered = λ s w r a. numbered-as r _ a (numbered-verdict (verdict_of (judgement s w)));
       walk_numbered = λ s w r w' a. numbered-answer _ _ _ _ _ _ (numbered-verdict (walk32 s).end) a;
       count_numbered = λ s w r w' a. numbered-answer _ _ _ _ _ _ (numbered-samples (samples_of s)) a;
       upgrade_numbered = λ t s r u a. numbered-as r _ a.number (numbered-verdict (verdict_of (upgraded t s)));
@@ -178,6 +194,7 @@ promise-1 =
       entry_numbered = λ i p w r w' a. numbered-answer _ _ _ _ _ _ (numbered-verdict Accepted) a;
       write_numbered = λ a out w r out' w' t. numbered-as r _ t.number (numbered-written (written_of (counted out w a)));
       scan_refused = λ s w r w' l a h. let e = enough _ _ _ w r w' l a in e.1 ∙ no_rows (scan s) w r l e.0 h;
+      list_refused = λ s w r w' l a h. let e = enough _ _ _ w r w' l a in e.1 ∙ no_list (listing s) w r l e.0 h;
       count_refused = λ s w r w' l a h. let e = enough _ _ _ w r w' l a in e.1 ∙ ap (sets w 0) (zeros-samples _ r e.0 h);
       fmt_refused = λ p w r w' l a h. let e = enough _ _ _ w r w' l a in e.1 ∙ ap (sets w 0) (zeros-fmt _ r e.0 h);
       bext_refused = λ p w r w' l a h. let e = enough _ _ _ w r w' l a in e.1 ∙ ap (sets w 0) (zeros-bext _ r e.0 h);
@@ -214,6 +231,31 @@ scan-is s v q v' a e l h =
     let g = enough _ _ _ v q v' l h in
     (g.0 ∙ ap (λ (y : Answer Scan). verdict_number (verdict_of y)) e, g.1 ∙ ap (λ (y : Answer Scan). tabled (rows_of y) v) e)
 
+-- the same of a listing
+record Listed (s w w' : List ℕ) : Type 0 where
+  by : Listing
+  is : listing s ≡ given by
+  table : w' ≡ tabled by.rows w
+
+listed-by : (s w w' : List ℕ) → Lists s w 0 w' → Listed s w w'
+unfolding listed_rows
+listed-by s w w' a =
+    let g = good _ _ _ w w' a in
+    let x = accepted (listing s) g.number in
+    record { by = x.0; is = x.1; table = g.words ∙ ap (λ (y : Answer Listing). tabled (listed_rows y) w) x.1 }
+
+list-table : (s w w' : List ℕ) (l : Listing) → Lists s w 0 w' → listing s ≡ given l → w' ≡ tabled l.rows w
+list-table s w w' l h e =
+    let x = listed-by s w w' h in
+    x.table ∙ ap (λ (y : Listing). tabled y.rows w) (given-inj _ _ (sym x.is ∙ e))
+
+list-is : (s v : List ℕ) (q : ℕ) (v' : List ℕ) (l : Listing) → listing s ≡ given l → WORDS ≤ length v → Lists s v q v'
+    → (q ≡ 0) × (v' ≡ tabled l.rows v)
+unfolding listed_rows verdict_of
+list-is s v q v' a e l h =
+    let g = enough _ _ _ v q v' l h in
+    (g.0 ∙ ap (λ (y : Answer Listing). verdict_number (verdict_of y)) e, g.1 ∙ ap (λ (y : Answer Listing). tabled (listed_rows y) v) e)
+
 -- ---- demand 2
 
 accepts : (s w : List ℕ) (r : ℕ) (w' : List ℕ) → Bytes s → WORDS ≤ length w → Scans s w r w' → (r ≡ 0) ↔ ((a : Scan) × GoodFile s a)
@@ -222,6 +264,86 @@ accepts s w r w' b l h = (
   (λ z. let x = scanned s w w' (subst (λ (n : ℕ). Scans s w n w') z h) in (x.by, (accepts-exactly s b x.by).0 x.is)),
   (λ g. (scan-is s w r w' g.0 ((accepts-exactly s b g.0).1 g.1) l h).0),
 )
+
+lists : (s w : List ℕ) (r : ℕ) (w' : List ℕ) → Bytes s → WORDS ≤ length w → Lists s w r w' → (r ≡ 0) ↔ ((l : Listing) × GoodShape s l)
+unfolding ListsExactly
+lists s w r w' b l h = (
+  (λ z. let x = listed-by s w w' (subst (λ (n : ℕ). Lists s w n w') z h) in (x.by, (lists-exactly s b x.by).0 x.is)),
+  (λ g. (list-is s w r w' g.0 ((lists-exactly s b g.0).1 g.1) l h).0),
+)
+
+-- ---- both in turn
+
+module _ (s w : List ℕ) (p q : ℕ) (u : List ℕ) (l : WORDS ≤ length w) (h : Lists s w p u) (j : Judges s u q) where
+  -- what the listing has stored is fresh, so the judgement ends as the scan does
+  judged-scan : p ≡ 0 → q ≡ verdict_number (verdict_of (scan s))
+  judged-scan z =
+      let x = listed-by s w u (subst (λ (n : ℕ). Lists s w n u) z h) in
+      let f = (decides s w).listed x.by x.is in
+      j ∙ ap (λ (t : List ℕ). verdict_number (verdict_of (judgement s t))) x.table
+      ∙ ap verdict_number ((decides s (tabled x.by.rows w)).fresh f)
+
+  turn : (r : ℕ) (w' : List ℕ) → Scans s w r w' → InTurn r p q w' u
+  unfolding verdict_of
+  turn r w' a =
+      let e = enough _ _ _ w r w' l a in
+      let d = enough _ _ _ w p u l h in
+      record {
+        first = λ n. e.0 ∙ refused-same (listing s) refl (λ z. n (d.0 ∙ z)) ∙ sym d.0;
+        then = λ z. e.0 ∙ sym (judged-scan z);
+        table = λ z.
+            let x = scanned s w w' (subst (λ (n : ℕ). Scans s w n w') z a) in
+            let k = list-is s w p u (listing_of x.by) (scan-listed s x.by x.is) l h in
+            x.table ∙ sym k.1;
+      }
+    where
+      refused-same : (x : Answer Listing) → listing s ≡ x → (verdict_number (verdict_of x) ≡ 0 → ⊥)
+          → verdict_number (verdict_of (scan s)) ≡ verdict_number (verdict_of x)
+      refused-same (refused y) e n = ap (λ (z : Answer Scan). verdict_number (verdict_of z)) (scan-listing s y e)
+      refused-same (given y) e n = absurd (n refl)
+
+  both : Bytes s → ((p ≡ 0) × (q ≡ 0)) ↔ ((a : Scan) × GoodFile s a)
+  unfolding AcceptsExactly verdict_of
+  both b = (
+    (λ z. let x = accepted (scan s) (sym (judged-scan z.0) ∙ z.1) in (x.0, (accepts-exactly s b x.0).0 x.1)),
+    (λ g.
+        let e = (accepts-exactly s b g.0).1 g.1 in
+        let k = list-is s w p u (listing_of g.0) (scan-listed s g.0 e) l h in
+        (k.0, judged-scan k.0 ∙ ap (λ (x : Answer Scan). verdict_number (verdict_of x)) e)),
+  )
+
+-- ---- 24
+
+judge-number : (x : Answer Format) → (r : ℕ) → r ≡ verdict_number (verdict_of x)
+    → ((y : Refusal) → x ≡ refused y → (y ≡ StaleListing) ⊎ (y ≡ BadFmt) ⊎ (y ≡ RaggedAudio))
+    → ((r ≡ 0) ⊎ (r ≡ 24) ⊎ (r ≡ 11) ⊎ (r ≡ 12)) × ((r ≡ 24) ↔ (x ≡ refused StaleListing))
+unfolding verdict_of
+judge-number (given f) r e k = (inl e, ((λ z. absurd (omega (arith, e, z))), λ z. absurd (refused-given StaleListing f (sym z))))
+judge-number (refused y) r e k = go (k y refl)
+  where
+    number : (z : Refusal) → y ≡ z → r ≡ refusal_number z
+    number z p = e ∙ ap refusal_number p
+
+    other : (z : Refusal) → y ≡ z → (refusal_number z ≡ 24 → ⊥) → (r ≡ 24) ↔ (◌≡◌ {A = Answer Format} (refused y) (refused StaleListing))
+    other z p n = (
+      (λ q. absurd (n (sym (number z p) ∙ q))),
+      (λ q. absurd (n (sym (ap refusal_number p) ∙ ap refusal_number (refused-inj y StaleListing q)))),
+    )
+
+    go : (y ≡ StaleListing) ⊎ (y ≡ BadFmt) ⊎ (y ≡ RaggedAudio)
+        → ((r ≡ 0) ⊎ (r ≡ 24) ⊎ (r ≡ 11) ⊎ (r ≡ 12)) × ((r ≡ 24) ↔ (◌≡◌ {A = Answer Format} (refused y) (refused StaleListing)))
+    go (inl p) = (inr (inl (number StaleListing p)), ((λ q. ap refused p), λ q. number StaleListing p))
+    go (inr (inl p)) = (inr (inr (inl (number BadFmt p))), other BadFmt p (λ z. omega (arith, z)))
+    go (inr (inr p)) = (inr (inr (inr (number RaggedAudio p))), other RaggedAudio p (λ z. omega (arith, z)))
+
+judges : (s w : List ℕ) (r : ℕ) → Judges s w r → ((r ≡ 0) ⊎ (r ≡ 24) ⊎ (r ≡ 11) ⊎ (r ≡ 12)) × ((r ≡ 24) ↔ (judgement s w ≡ refused StaleListing))
+judges s w r j = judge-number (judgement s w) r j (decides s w).others
+
+stale : (s w : List ℕ) (r : ℕ) → Judges s w r → (r ≡ 24) ↔ (FreshListing s w → ⊥)
+stale s w r j =
+    let k = (judges s w r j).1 in
+    let d = (decides s w).stale in
+    ((λ z. d.0 (k.0 z)), λ n. k.1 (d.1 n))
 
 -- nine words are their format record's
 nine_words : (w : List ℕ) → length w ≡ 9 → fmt_values (fmt-reading.Record (format_of w)) ≡ w
@@ -351,13 +473,17 @@ fourth-word s d ks e k n m =
     told : (x : Source) → k ≡ source_number x → e.source ≡ x
     told x z = sym (source-back e.source) ∙ ap source_of (sym n ∙ z) ∙ source-back x
 
+fourth-words : (s w w' : List ℕ) (l : Listing) → w' ≡ tabled l.rows w → listing s ≡ given l → (i : ℕ) → i < get_or w' 0 0
+    → FourthWord s (entries_of l.head s) (row_in (1 + 4 * i) w') (get_or w' (1 + 4 * i + 3) 0)
+fourth-words s w w' l t e i k =
+    let r = table-row l.rows w w' t i k in
+    subst (λ (y : Entry). FourthWord s (entries_of l.head s) y (get_or w' (1 + 4 * i + 3) 0)) (sym r.2)
+    (fourth-word s l.head.ds64 (entries_of l.head s) r.0 _
+    (fourth (1 + 4 * i) w' ∙ ap (λ (y : Entry). source_number y.source) r.2) ((list-tables s l e).marks r.0 r.1))
+
 sources : (s w w' : List ℕ) (a : Scan) → Scans s w 0 w' → scan s ≡ given a → (i : ℕ) → i < get_or w' 0 0
     → FourthWord s (entries_of a.head s) (row_in (1 + 4 * i) w') (get_or w' (1 + 4 * i + 3) 0)
-sources s w w' a h e i l =
-    let r = table-row a.rows w w' (scan-table s w w' a h e) i l in
-    subst (λ (y : Entry). FourthWord s (entries_of a.head s) y (get_or w' (1 + 4 * i + 3) 0)) (sym r.2)
-    (fourth-word s a.head.ds64 (entries_of a.head s) r.0 _
-    (fourth (1 + 4 * i) w' ∙ ap (λ (y : Entry). source_number y.source) r.2) ((tables s a e).marks r.0 r.1))
+sources s w w' a h e i l = fourth-words s w w' (listing_of a) (scan-table s w w' a h e) (scan-listed s a e) i l
 
 -- rows that say own field have 0 there
 own-words : (rows : List Entry) (w w' : List ℕ) → w' ≡ tabled rows w → ((e : Entry) → Memᴰ e rows → e.source ≡ Own)
@@ -372,11 +498,19 @@ unfolding SaysOwn
 walk-own s v r v' l h = own-words (walk32 s).rows v v' (enough _ _ _ v r v' l h).1 (says-own s)
 
 pub promise-2 : Promise2
-unfolding written_in AcceptsExactly whole_of
+unfolding written_in ListsExactly AcceptsExactly whole_of
 promise-2 =
     record {
       accepts = accepts;
       table = λ s w w' a b h g. scan-table s w w' a h ((accepts-exactly s b a).1 g);
+      in_turn = λ s w r p q w' u l a h j. turn s w p q u l h j r w' a;
+      accepts_in_turn = λ s w p q u b l h j. both s w p q u l h j b;
+      lists = lists;
+      list_table = λ s w w' l b h g. list-table s w w' l h ((lists-exactly s b l).1 g);
+      list_sources = λ s w w' l h e. fourth-words s w w' l (list-table s w w' l h e) e;
+      stale = stale;
+      fresh = fresh-says;
+      judges = λ s w r j. (judges s w r j).0;
       in_place = λ a out w out' w' h. let k = wrote-out a out w out' w' h in record { fits = k.fits; rest = k.output };
       fmt_back = fmt_back;
       bext_back = bext_back;
@@ -411,6 +545,17 @@ first : (s w w' v : List ℕ) (r : ℕ) (v' : List ℕ) → Scans s w 0 w' → W
 first s w w' v r v' a l h =
     let x = scanned s w w' a in
     let f = first-half s x.by x.is in
+    record {
+      rows = x.by.rows;
+      table = x.table;
+      stops = λ xs e ys q sized ones. walk_is s v r v' _ (f.stops xs e ys q sized ones) l h;
+      whole = λ sized. walk_is s v r v' _ (f.whole sized) l h;
+    }
+
+listed : (s w w' v : List ℕ) (r : ℕ) (v' : List ℕ) → Lists s w 0 w' → WORDS ≤ length v → Walks32 s v r v' → WalkPromise s w w' v r v'
+listed s w w' v r v' a l h =
+    let x = listed-by s w w' a in
+    let f = list-half s x.by x.is in
     record {
       rows = x.by.rows;
       table = x.table;
@@ -472,5 +617,10 @@ promise-3 =
     record {
       own = walk-own;
       first = first;
+      listed = listed;
       second = λ t s w w' a r u b k e riff h. second-of t s w w' a r u b (scan-table s w w' a k e) e riff h;
+      second_in_turn = λ t s w w' r u b k j.
+          let l = (good _ _ _ w w' k).long in
+          let x = accepted (scan s) (sym (judged-scan s w 0 0 w' l k j refl)) in
+          (x.0, x.1, second-of t s w w' x.0 r u b (list-table s w w' (listing_of x.0) k (scan-listed s x.0 x.1)) x.1);
     }

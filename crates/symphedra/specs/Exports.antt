@@ -6,7 +6,9 @@ use Rattle.chunk.specs.Refusals.{Answer, verdict_number, verdict_of}
 use Rattle.chunk.specs.Tables.{tabled, WORDS}
 use Rattle.form.specs.declared.Form.{Form}
 use Rattle.form.specs.declared.Form.TheVariants as form
-use Rattle.wave.specs.Scans.{scan, rows_of, walk32}
+use Rattle.listing.specs.Listings.{listing}
+use Rattle.wave.specs.Scans.{scan, rows_of, listed_rows, walk32}
+use Rattle.wave.specs.Judgements.{judgement}
 use Rattle.samples.specs.Counts.{samples_of, samples_number, samples_values}
 use Rattle.upgrade.specs.declared.Target.{Target}
 use Rattle.upgrade.specs.declared.Target.TheVariants as target
@@ -19,6 +21,14 @@ use Rattle.records.specs.Writing.{of_nine}
 -- symphedra_scan
 abbrev pub Scans : (file w : List ℕ) (r : ℕ) (w' : List ℕ) → Type 0
 Scans s w r w' = Answers WORDS (verdict_number (verdict_of (scan s))) (tabled (rows_of (scan s)) w) w r w'
+
+-- symphedra_list
+abbrev pub Lists : (file w : List ℕ) (r : ℕ) (w' : List ℕ) → Type 0
+Lists s w r w' = Answers WORDS (verdict_number (verdict_of (listing s))) (tabled (listed_rows (listing s)) w) w r w'
+
+-- symphedra_judge, which is lent its words to read
+abbrev pub Judges : (file w : List ℕ) (r : ℕ) → Type 0
+Judges s w r = r ≡ verdict_number (verdict_of (judgement s w))
 
 -- symphedra_walk32
 abbrev pub Walks32 : (file w : List ℕ) (r : ℕ) (w' : List ℕ) → Type 0

@@ -23,8 +23,10 @@ use Rattle.chna_entry.specs.Entries.{Used, unused, used}
 use Rattle.chna.specs.Records.{Whole as Chna, entry_at, EntryStands, entries_in, chna_in, whole_of, pads_zeroed}
 use Rattle.truesize.specs.Sizes.{Ds64Entry, entries_of}
 use Rattle.truesize.specs.Told.{FirstEntry}
+use Rattle.listing.specs.Listings.{Listing, listing}
 use Rattle.wave.specs.Scans.{Scan, scan}
-use Rattle.wave.specs.Grammar.{GoodFile}
+use Rattle.wave.specs.Judgements.{FreshListing, FreshSays}
+use Rattle.wave.specs.Grammar.{GoodShape, GoodFile}
 use Rattle.wave.specs.Tables.{own_field}
 use Rattle.wave.specs.Demand3.{Sized}
 use Rattle.upgrade.specs.declared.Target.{Target}
@@ -33,7 +35,7 @@ use Rattle.writer.specs.WayBack.{WayBack, table_for}
 use Rattle.words.specs.Answers.{Answers, WritesOut}
 use Rattle.records.specs.Reading.{ReadsFmt, ReadsBext, PartsOf, ReadsChna, EntryOf, places_of, entry_values}
 use Rattle.records.specs.Writing.{format_of, WritesFmt, WritesBext, WritesChna}
-use Rattle.symphedra.specs.Exports.{Scans, Walks32, Counts, Upgrades, WritesFile}
+use Rattle.symphedra.specs.Exports.{Lists, Judges, Scans, Walks32, Counts, Upgrades, WritesFile}
 
 -- ---- demand 1
 
@@ -43,6 +45,8 @@ Numbered r = (r ≡ 0) ⊎ ((x : Refusal) × (r ≡ refusal_number x))
 
 pub record Promise1 : Type 0 where
   pub scan_numbered : (s w : List ℕ) (r : ℕ) (w' : List ℕ) → Scans s w r w' → Numbered r
+  pub list_numbered : (s w : List ℕ) (r : ℕ) (w' : List ℕ) → Lists s w r w' → Numbered r
+  pub judge_numbered : (s w : List ℕ) (r : ℕ) → Judges s w r → Numbered r
   pub walk_numbered : (s w : List ℕ) (r : ℕ) (w' : List ℕ) → Walks32 s w r w' → Numbered r
   pub count_numbered : (s w : List ℕ) (r : ℕ) (w' : List ℕ) → Counts s w r w' → Numbered r
   pub upgrade_numbered : (t : Target) (s : List ℕ) (r : ℕ) (u : List ℕ) → Upgrades t s r u → Numbered r
@@ -55,6 +59,8 @@ pub record Promise1 : Type 0 where
   pub write_numbered : (a : Answer (List ℕ)) (out w : List ℕ) (r : ℕ) (out' w' : List ℕ) → WritesOut a out w r out' w' → Numbered r
   -- "A refused scan gives an empty table": word 0 is 0, and no other word changes
   pub scan_refused : (s w : List ℕ) (r : ℕ) (w' : List ℕ) → WORDS ≤ length w → Scans s w r w' → (r ≡ 0 → ⊥) → w' ≡ sets w 0 (0 ∷ [])
+  -- and so does a refused listing
+  pub list_refused : (s w : List ℕ) (r : ℕ) (w' : List ℕ) → WORDS ≤ length w → Lists s w r w' → (r ≡ 0 → ⊥) → w' ≡ sets w 0 (0 ∷ [])
   -- a refused count or reader gives zeros
   pub count_refused : (s w : List ℕ) (r : ℕ) (w' : List ℕ) → 2 ≤ length w → Counts s w r w' → (r ≡ 0 → ⊥) → w' ≡ sets w 0 (replicate 2 0)
   pub fmt_refused : (p w : List ℕ) (r : ℕ) (w' : List ℕ) → 9 ≤ length w → ReadsFmt p w r w' → (r ≡ 0 → ⊥) → w' ≡ sets w 0 (replicate 9 0)
@@ -87,6 +93,13 @@ pub record FourthWord (s : List ℕ) (ks : List Ds64Entry) (row : Entry) (k : �
   pub audio : (k ≡ 1) ↔ ((row.name ≡ DATA) × (own_field s row ≡ ONES))
   pub entry : (p : ℕ) → k ≡ 2 + p → FirstEntry row.name p row.size ks
 
+-- What the scan, the listing and the judgement of its table return, in this order, and the tables of the first two: "both in
+-- turn with today's refusals" (document 02)
+pub record InTurn (r p q : ℕ) (w' u : List ℕ) : Type 0 where
+  pub first : (p ≡ 0 → ⊥) → r ≡ p
+  pub then : p ≡ 0 → r ≡ q
+  pub table : r ≡ 0 → w' ≡ u
+
 pub record Promise2 : Type 0 where
   -- "A scan accepts exactly the RIFF, RF64 and BW64 files that document 01 defines": the grammar of wave/specs/Grammar.antt;
   -- "with each chunk's name, place and true 64-bit size"
@@ -95,6 +108,22 @@ pub record Promise2 : Type 0 where
   -- and where each size came from
   pub sources : (s w : List ℕ) (w' : List ℕ) (a : Scan) → Scans s w 0 w' → scan s ≡ given a → (i : ℕ) → i < get_or w' 0 0
       → FourthWord s (entries_of a.head s) (row_in (1 + 4 * i) w') (get_or w' (1 + 4 * i + 3) 0)
+  -- symphedra_scan is symphedra_list and then symphedra_judge
+  pub in_turn : (s w : List ℕ) (r p q : ℕ) (w' u : List ℕ) → WORDS ≤ length w → Scans s w r w' → Lists s w p u → Judges s u q
+      → InTurn r p q w' u
+  -- and what the scan accepts, both in turn accept
+  pub accepts_in_turn : (s w : List ℕ) (p q : ℕ) (u : List ℕ) → Bytes s → WORDS ≤ length w → Lists s w p u → Judges s u q
+      → ((p ≡ 0) × (q ≡ 0)) ↔ ((a : Scan) × GoodFile s a)
+  -- the listing accepts exactly the files of the shape that document 01 defines (wave/specs/Grammar.antt), whatever their format
+  pub lists : (s w : List ℕ) (r : ℕ) (w' : List ℕ) → Bytes s → WORDS ≤ length w → Lists s w r w' → (r ≡ 0) ↔ ((l : Listing) × GoodShape s l)
+  pub list_table : (s w : List ℕ) (w' : List ℕ) (l : Listing) → Bytes s → Lists s w 0 w' → GoodShape s l → w' ≡ tabled l.rows w
+  pub list_sources : (s w : List ℕ) (w' : List ℕ) (l : Listing) → Lists s w 0 w' → listing s ≡ given l → (i : ℕ) → i < get_or w' 0 0
+      → FourthWord s (entries_of l.head s) (row_in (1 + 4 * i) w') (get_or w' (1 + 4 * i + 3) 0)
+  -- 24 "for a listing that isn't a fresh listing of the given file, and also where the file has no listing", exactly, and
+  -- which words are one; else 11, 12 or none, the scan's own
+  pub stale : (s w : List ℕ) (r : ℕ) → Judges s w r → (r ≡ 24) ↔ (FreshListing s w → ⊥)
+  pub fresh : (s w : List ℕ) → FreshListing s w → FreshSays s w
+  pub judges : (s w : List ℕ) (r : ℕ) → Judges s w r → (r ≡ 0) ⊎ (r ≡ 24) ⊎ (r ≡ 11) ⊎ (r ≡ 12)
   -- "What we write reads back as the records .. we gave." Every writer:
   pub in_place : (a : Answer (List ℕ)) (out w out' w' : List ℕ) → WritesOut a out w 0 out' w' → InPlace out out' w'
   -- fmt: the nine words that were given
@@ -176,5 +205,11 @@ pub record Promise3 : Type 0 where
   pub own : (s v : List ℕ) (r : ℕ) (v' : List ℕ) → WORDS ≤ length v → Walks32 s v r v' → (i : ℕ) → i < get_or v' 0 0
       → get_or v' (1 + 4 * i + 3) 0 ≡ 0
   pub first : (s w w' v : List ℕ) (r : ℕ) (v' : List ℕ) → Scans s w 0 w' → WORDS ≤ length v → Walks32 s v r v' → WalkPromise s w w' v r v'
+  -- "The 32-bit walk is also compared with every accepted listing" (document 02), also of a file that the scan refuses; w' and
+  -- the table are the listing's
+  pub listed : (s w w' v : List ℕ) (r : ℕ) (v' : List ℕ) → Lists s w 0 w' → WORDS ≤ length v → Walks32 s v r v' → WalkPromise s w w' v r v'
   pub second : (t : Target) (s w w' : List ℕ) (a : Scan) (r : ℕ) (u : List ℕ) → Bytes s → Scans s w 0 w' → scan s ≡ given a
       → a.head.form ≡ Riff → Upgrades t s r u → UpgradePromise t s w w' a r u
+  -- and of a file that the listing and the judgement of its table accept in turn
+  pub second_in_turn : (t : Target) (s w w' : List ℕ) (r : ℕ) (u : List ℕ) → Bytes s → Lists s w 0 w' → Judges s w' 0
+      → (a : Scan) × (scan s ≡ given a) × (a.head.form ≡ Riff → Upgrades t s r u → UpgradePromise t s w w' a r u)

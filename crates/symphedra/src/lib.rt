@@ -7,7 +7,7 @@
 pub mod writers;
 
 ghost use Rattle.records.specs.Reading.{ReadsFmt, ReadsBext, PartsOf, ReadsChna, EntryOf};
-ghost use Rattle.symphedra.specs.Exports.{Scans, Walks32, Counts, Upgrades, rf64, bw64};
+ghost use Rattle.symphedra.specs.Exports.{Scans, Lists, Judges, Walks32, Counts, Upgrades, rf64, bw64};
 
 use samples::Samples;
 use upgrade::Target;
@@ -17,6 +17,20 @@ pub fn symphedra_scan(file: &[u8], table: &mut [u64]) -> u32
     ensures { Scans file.now table.old result table.new }
 {
     wave::scan_into(file, table).number()
+}
+
+// The table of a file's chunks, whatever its format; or a refusal and no chunk.
+pub fn symphedra_list(file: &[u8], table: &mut [u64]) -> u32
+    ensures { Lists file.now table.old result table.new }
+{
+    wave::list_into(file, table).number()
+}
+
+// The judgement of a file's format, over words that are to be a fresh listing of it.
+pub fn symphedra_judge(file: &[u8], table: &[u64]) -> u32
+    ensures { Judges file.now table.now result }
+{
+    wave::judge(file, table).number()
 }
 
 // What the 32-bit walk shows, and its stop.

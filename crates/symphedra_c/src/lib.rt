@@ -6,7 +6,7 @@
 mod writers;
 
 ghost use Rattle.records.specs.Reading.{ReadsFmt, ReadsBext, PartsOf, ReadsChna, EntryOf};
-ghost use Rattle.symphedra.specs.Exports.{Scans, Walks32, Counts, Upgrades, rf64, bw64};
+ghost use Rattle.symphedra.specs.Exports.{Scans, Lists, Judges, Walks32, Counts, Upgrades, rf64, bw64};
 
 // The table of a file's chunks, or its refusal and no chunk.
 #[unsafe(no_mangle)]
@@ -14,6 +14,22 @@ pub extern "C" fn symphedra_scan(file: &[u8], table: &mut [u64]) -> u32
     ensures { Scans file.now table.old result table.new }
 {
     symphedra::symphedra_scan(file, table)
+}
+
+// The table of a file's chunks, whatever its format; or a refusal and no chunk.
+#[unsafe(no_mangle)]
+pub extern "C" fn symphedra_list(file: &[u8], table: &mut [u64]) -> u32
+    ensures { Lists file.now table.old result table.new }
+{
+    symphedra::symphedra_list(file, table)
+}
+
+// The judgement of a file's format, over words that are to be a fresh listing of it.
+#[unsafe(no_mangle)]
+pub extern "C" fn symphedra_judge(file: &[u8], table: &[u64]) -> u32
+    ensures { Judges file.now table.now result }
+{
+    symphedra::symphedra_judge(file, table)
 }
 
 // What the 32-bit walk shows, and its stop.
