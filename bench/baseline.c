@@ -2,9 +2,10 @@
  * Hand-written C with the checks and the output words of symphedra.h: what the proved library's
  * instruction counts are held against. Not part of the product.
  *
- * Scan, walk, count and upgrade are as strong as we can write them: one pass, one load and one test for
- * an ordinary header, names compared only where the first byte is one of b to f. bext looks for zeros by
- * 128 bytes and tests them by 32.
+ * Scan, listing, judgement, walk, count and upgrade are as strong as we can write them: one pass, one load
+ * and one test for an ordinary header, names compared only where the first byte is one of b to f. The
+ * judgement compares all rows at once; in a long table, one by one as they are met is dearer. bext looks
+ * for zeros by 128 bytes and tests them by 32.
  *
  * With -DBASELINE_AS_SYMPHEDRA it has the library's names, to stand in for it.
  */
@@ -436,11 +437,11 @@ INLINE size_t bytes_between(const uint64_t *from, const uint64_t *to)
 
 enum { ROW_BYTES = 4 * sizeof(uint64_t) };
 
-/* ---- the scan ---- */
+/* ---- the listing, its judgement, and both in turn ---- */
 
 enum { MET_FMT = 1, MET_DATA = 2, MET_FACT = 4, MET_BEXT = 8, MET_CHNA = 16, BROKEN = 32 };
 
-/* What a scan finds beside its rows; a place of 0 means absent. */
+/* What a listing finds beside its rows, and the block that is judged; a place of 0 means absent. */
 struct found {
     uint32_t form, met, block;
     uint64_t fmt, fmt_size, data, data_size, fact;
@@ -500,7 +501,7 @@ INLINE uint64_t source(const uint8_t *f, const uint8_t *entry)
 }
 
 /* A chunk that fails the test; its true size is found out first. row: its row, or NULL. */
-INLINE uint32_t scan_at_the_end(const uint8_t *f, uint64_t len, struct walk *w, uint64_t name,
+INLINE uint32_t list_at_the_end(const uint8_t *f, uint64_t len, struct walk *w, uint64_t name,
                                 uint64_t *size, uint64_t *row)
 {
     if (*size == ONES) {
@@ -545,20 +546,18 @@ INLINE int note(struct found *s, uint64_t name, uint64_t at, uint64_t size)
     return name != DS64;
 }
 
-/* Checks 10 to 12. */
+/* Checks 11 and 12. */
 INLINE uint32_t judge(const uint8_t *f, struct found *s)
 {
     struct fmt fmt;
-    if ((s->met & (MET_DATA | BROKEN)) != MET_DATA)
-        return SYMPHEDRA_BAD_CHUNK_SET;
     if (!fmt_read(f + s->fmt, s->fmt_size, &fmt))
         return SYMPHEDRA_BAD_FMT;
     s->block = fmt.block;
     return s->data_size % fmt.block == 0 ? SYMPHEDRA_OK : SYMPHEDRA_RAGGED_AUDIO;
 }
 
-/* rows: room for 64, or NULL where they aren't wanted. */
-INLINE uint32_t scan(const uint8_t *f, uint64_t len, uint64_t *rows, struct found *s)
+/* Checks 1 to 10. rows: room for 64, or NULL where they aren't wanted. */
+INLINE uint32_t list(const uint8_t *f, uint64_t len, uint64_t *rows, struct found *s)
 {
     struct walk w = {.next = 20, .more = SYMPHEDRA_CHUNK_LIMIT};
     uint32_t refusal = read_head(f, len, &s->form);
@@ -584,7 +583,7 @@ INLINE uint32_t scan(const uint8_t *f, uint64_t len, uint64_t *rows, struct foun
         if (rows)
             rows[3] = 0;
         if (w.next > w.near) {
-            refusal = scan_at_the_end(f, len, &w, name, &size, rows);
+            refusal = list_at_the_end(f, len, &w, name, &size, rows);
             if (refusal)
                 return name == DS64 ? SYMPHEDRA_BAD_DS64 : refusal;
         }
@@ -595,7 +594,28 @@ INLINE uint32_t scan(const uint8_t *f, uint64_t len, uint64_t *rows, struct foun
     } while (--w.more);
     s->end = rows;
     refusal = stop(w.next, len);
+    if (refusal)
+        return refusal;
+    return (s->met & (MET_DATA | BROKEN)) == MET_DATA ? SYMPHEDRA_OK : SYMPHEDRA_BAD_CHUNK_SET;
+}
+
+INLINE uint32_t scan(const uint8_t *f, uint64_t len, uint64_t *rows, struct found *s)
+{
+    uint32_t refusal = list(f, len, rows, s);
     return refusal ? refusal : judge(f, s);
+}
+
+/* A table once its rows are known. */
+INLINE uint32_t table_out(uint32_t refusal, const uint64_t *rows, const struct found *s, uint64_t *table)
+{
+    if (refusal) {
+        table[0] = 0;
+        return refusal;
+    }
+    size_t bytes = bytes_between(rows, s->end);
+    table[0] = bytes / ROW_BYTES;
+    memcpy(table + 1, rows, bytes);
+    return SYMPHEDRA_OK;
 }
 
 uint32_t symphedra_scan(const uint8_t *file, size_t len, uint64_t *table, size_t words)
@@ -604,15 +624,29 @@ uint32_t symphedra_scan(const uint8_t *file, size_t len, uint64_t *table, size_t
     struct found s;
     if (words < SYMPHEDRA_TABLE_WORDS)
         return SYMPHEDRA_SHORT_OUTPUT;
-    uint32_t refusal = scan(file, len, rows, &s);
-    if (refusal) {
-        table[0] = 0;
-        return refusal;
-    }
+    return table_out(scan(file, len, rows, &s), rows, &s, table);
+}
+
+uint32_t symphedra_list(const uint8_t *file, size_t len, uint64_t *table, size_t words)
+{
+    uint64_t rows[4 * SYMPHEDRA_CHUNK_LIMIT];
+    struct found s;
+    if (words < SYMPHEDRA_TABLE_WORDS)
+        return SYMPHEDRA_SHORT_OUTPUT;
+    return table_out(list(file, len, rows, &s), rows, &s, table);
+}
+
+uint32_t symphedra_judge(const uint8_t *file, size_t len, const uint64_t *table, size_t words)
+{
+    uint64_t rows[4 * SYMPHEDRA_CHUNK_LIMIT];
+    struct found s;
+    if (list(file, len, rows, &s))
+        return SYMPHEDRA_STALE_LISTING;
     size_t bytes = bytes_between(rows, s.end);
-    table[0] = bytes / ROW_BYTES;
-    memcpy(table + 1, rows, bytes);
-    return SYMPHEDRA_OK;
+    if (words <= bytes / sizeof rows[0] || table[0] != bytes / ROW_BYTES ||
+        memcmp(table + 1, rows, bytes) != 0)
+        return SYMPHEDRA_STALE_LISTING;
+    return judge(file, &s);
 }
 
 uint32_t symphedra_walk32(const uint8_t *file, size_t len, uint64_t *table, size_t words)

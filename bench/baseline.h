@@ -8,6 +8,8 @@
 #ifndef BASELINE_AS_SYMPHEDRA
 #undef SYMPHEDRA_H
 #define symphedra_scan         baseline_scan
+#define symphedra_list         baseline_list
+#define symphedra_judge        baseline_judge
 #define symphedra_walk32       baseline_walk32
 #define symphedra_sample_count baseline_sample_count
 #define symphedra_upgrade_rf64 baseline_upgrade_rf64

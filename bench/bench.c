@@ -24,7 +24,8 @@ typedef uint32_t to_words(const uint8_t *, size_t, uint64_t *, size_t);
 
 struct side {
     const char *name;
-    to_words *scan, *walk32, *sample_count, *read_bext;
+    to_words *scan, *list, *walk32, *sample_count, *read_bext;
+    uint32_t (*judge)(const uint8_t *, size_t, const uint64_t *, size_t);
     uint32_t (*upgrade)(uint8_t *, size_t);
     uint32_t (*read_chna)(const uint8_t *, size_t, uint16_t, uint64_t *, size_t);
     uint32_t (*write_riff)(const uint64_t *, size_t, const uint8_t *, size_t, const uint8_t *,
@@ -32,8 +33,9 @@ struct side {
 };
 
 #define SIDE(name) \
-    { name, symphedra_scan, symphedra_walk32, symphedra_sample_count, symphedra_read_bext, \
-      symphedra_upgrade_rf64, symphedra_read_chna, symphedra_write_riff }
+    { name, symphedra_scan, symphedra_list, symphedra_walk32, symphedra_sample_count, \
+      symphedra_read_bext, symphedra_judge, symphedra_upgrade_rf64, symphedra_read_chna, \
+      symphedra_write_riff }
 
 static const struct side library = SIDE("library");
 #include "baseline.h" /* from here on the names are the baseline's */
@@ -241,6 +243,23 @@ static void count_scan(const char *of, const uint8_t *file, size_t len)
     count_words("scan", of, library.scan, baseline.scan, file, len, SYMPHEDRA_TABLE_WORDS, 0);
 }
 
+static void count_list(const char *of, const uint8_t *file, size_t len)
+{
+    count_words("list", of, library.list, baseline.list, file, len, SYMPHEDRA_TABLE_WORDS, 0);
+}
+
+/* Over a fresh listing. */
+static void count_judge(const char *of, const uint8_t *file, size_t len)
+{
+    uint64_t table[SYMPHEDRA_TABLE_WORDS];
+    char label[80];
+    snprintf(label, sizeof label, "judge, %s", of);
+    if (library.list(file, len, table, SYMPHEDRA_TABLE_WORDS) != 0)
+        fail(label);
+    COUNT("library", label, , library.judge(file, len, table, SYMPHEDRA_TABLE_WORDS), 0);
+    COUNT("baseline", label, , baseline.judge(file, len, table, SYMPHEDRA_TABLE_WORDS), 0);
+}
+
 /* A walk of a 64-bit form stops at data. */
 static void count_walk(const char *of, const uint8_t *file, size_t len, uint32_t stop)
 {
@@ -279,6 +298,11 @@ static void counts(void)
     count_scan("RF64, 60 chunks", file, make_file(file, 1, 60, 0, 4));
     count_scan("broadcast take, 12 chunks", file, make_take(file));
     count_scan("worst ds64, 64 chunks", file, make_worst(file));
+    count_list("RIFF, 64 chunks", file, make_file(file, 0, 64, 0, 4));
+    count_list("RF64, 60 chunks", file, make_file(file, 1, 60, 0, 4));
+    count_judge("RIFF, 3 chunks", file, make_file(file, 0, 3, 0, 4));
+    count_judge("RIFF, 64 chunks", file, make_file(file, 0, 64, 0, 4));
+    count_judge("RF64, 60 chunks", file, make_file(file, 1, 60, 0, 4));
     for (size_t i = 0; i < sizeof riff / sizeof riff[0]; i++)
         count_walk(riff[i].name, file, make_file(file, 0, riff[i].chunks, 0, 4), 0);
     count_walk("RF64, 60 chunks", file, make_file(file, 1, 60, 0, 4), SYMPHEDRA_UNKNOWN_SIZE);

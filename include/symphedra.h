@@ -1,5 +1,5 @@
 /*
- * symphedra: RIFF, RF64 and BW64 recordings, scanned, walked, upgraded and written.
+ * symphedra: RIFF, RF64 and BW64 recordings, scanned, listed, judged, walked, upgraded and written.
  *
  * Any bytes at all may be given to any function. It ends, touches nothing outside what it was
  * lent, and returns 0 or one of the refusal numbers below. The library keeps no state, allocates
@@ -9,9 +9,9 @@
  * A run of length 0 may come with any pointer. Runs must not overlap. Word pointers are aligned as
  * C asks of uint64_t.
  *
- * Scan, walk, count and readers: an output with too few words gives SYMPHEDRA_SHORT_OUTPUT ahead of
- * everything else and changes nothing. Words past those that a function is said to set stay as
- * they were.
+ * Scan, listing, walk, count and readers: an output with too few words gives SYMPHEDRA_SHORT_OUTPUT
+ * ahead of everything else and changes nothing. Words past those that a function is said to set stay
+ * as they were.
  */
 #ifndef SYMPHEDRA_H
 #define SYMPHEDRA_H
@@ -26,9 +26,9 @@ extern "C" {
 /* Refusal numbers. In the words of the format's rules, L is the length lent and S the form size. */
 #define SYMPHEDRA_OK              0u /* no refusal */
 #define SYMPHEDRA_TOO_SHORT       1u /* L is below 12 */
-#define SYMPHEDRA_NOT_WAVE        2u /* form name unknown (scan only), or WAVE absent */
-#define SYMPHEDRA_UNFINISHED      3u /* RIFF with an all-ones form field (scan only) */
-#define SYMPHEDRA_BAD_DS64        4u /* ds64 absent, broken or out of place (scan only) */
+#define SYMPHEDRA_NOT_WAVE        2u /* form name unknown (not in the walk), or WAVE absent */
+#define SYMPHEDRA_UNFINISHED      3u /* RIFF with an all-ones form field (not in the walk) */
+#define SYMPHEDRA_BAD_DS64        4u /* ds64 absent, broken or out of place (not in the walk) */
 #define SYMPHEDRA_BAD_FORM_SIZE   5u /* 8 + S is not L, or S is below 4 */
 #define SYMPHEDRA_CUT_HEADER      6u /* 1 to 7 bytes left where a header is due */
 #define SYMPHEDRA_UNKNOWN_SIZE    7u /* all-ones size with no true size known */
@@ -44,6 +44,7 @@ extern "C" {
 #define SYMPHEDRA_TOO_LARGE      17u /* writer: RIFF form size, or bext, above 4,294,967,294 */
 #define SYMPHEDRA_ALREADY_64     18u /* upgrade: already a 64-bit form */
 #define SYMPHEDRA_NO_RESERVE     19u /* upgrade: first chunk isn't JUNK of 28 or more */
+#define SYMPHEDRA_STALE_LISTING  24u /* judgement: not a fresh listing of the file, or it has none */
 
 /*
  * Where a size came from, the fourth word of a table's row. A size field that isn't all ones is the
@@ -69,9 +70,28 @@ extern "C" {
  * place, true size, and where the size came from: SYMPHEDRA_SOURCE_OWN, SYMPHEDRA_SOURCE_DATA_SIZE,
  * or SYMPHEDRA_SOURCE_ENTRY + p for the ds64 entry at position p, the first one of the chunk's name.
  * A refused scan sets table[0] to 0 and no other word.
- * Returns 0, 15, or 1 to 12.
+ * It is the listing and its judgement in turn: a scan says 0, with symphedra_list's table, exactly
+ * where both do. Returns 0, 15, or 1 to 12.
  */
 uint32_t symphedra_scan(const uint8_t *file, size_t len, uint64_t *table, size_t words);
+
+/*
+ * The listing of a file whatever its format: the scan's table, by checks 1 to 10 alone. fmt and the
+ * block size aren't judged. table is as for symphedra_scan, and a refused listing sets table[0] to 0
+ * and no other word.
+ * Returns 0, 15, or 1 to 10.
+ */
+uint32_t symphedra_list(const uint8_t *file, size_t len, uint64_t *table, size_t words);
+
+/*
+ * The judgement of fmt and block size, over a file and a listing of it. table: any words; they are a
+ * listing of the file where table[0] and all four words of each of so many rows are what
+ * symphedra_list gives now. Words past the last row aren't looked at. Too few words for the rows, or
+ * a number above 64, is no listing.
+ * Returns 0, or the first that applies: 24 where the table isn't a fresh listing of the file, and for
+ * every table where the file has no listing; 11; 12. Never 15. It changes nothing.
+ */
+uint32_t symphedra_judge(const uint8_t *file, size_t len, const uint64_t *table, size_t words);
 
 /*
  * The plain 32-bit walk, which knows nothing of ds64. The table is as for symphedra_scan, the fourth

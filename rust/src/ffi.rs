@@ -24,6 +24,9 @@ mod c {
 
     extern "C" {
         pub fn symphedra_scan(file: *const u8, len: usize, table: *mut u64, words: usize) -> u32;
+        pub fn symphedra_list(file: *const u8, len: usize, table: *mut u64, words: usize) -> u32;
+        pub fn symphedra_judge(file: *const u8, len: usize, table: *const u64, words: usize)
+            -> u32;
         pub fn symphedra_walk32(file: *const u8, len: usize, table: *mut u64, words: usize) -> u32;
         pub fn symphedra_sample_count(
             file: *const u8,
@@ -128,6 +131,18 @@ pub const CHNA_ENTRY_WORDS: usize = 5;
 pub fn scan(file: &[u8], table: &mut [u64]) -> u32 {
     // SAFETY: as this file's head says.
     unsafe { c::symphedra_scan(file.as_ptr(), file.len(), table.as_mut_ptr(), table.len()) }
+}
+
+/// `symphedra_list`.
+pub fn list(file: &[u8], table: &mut [u64]) -> u32 {
+    // SAFETY: as this file's head says.
+    unsafe { c::symphedra_list(file.as_ptr(), file.len(), table.as_mut_ptr(), table.len()) }
+}
+
+/// `symphedra_judge`.
+pub fn judge(file: &[u8], table: &[u64]) -> u32 {
+    // SAFETY: as this file's head says.
+    unsafe { c::symphedra_judge(file.as_ptr(), file.len(), table.as_ptr(), table.len()) }
 }
 
 /// `symphedra_walk32`.

@@ -1,4 +1,4 @@
-//! RIFF, RF64 and BW64 recordings: scanned, walked, upgraded and written.
+//! RIFF, RF64 and BW64 recordings: scanned, listed, judged, walked, upgraded and written.
 //!
 //! A safe crate over the proved C library `libsymphedra.a`. Any bytes may be given to any function:
 //! it answers, or gives a [`Refusal`] with its number and words. A refused write or upgrade changes
@@ -38,7 +38,7 @@ pub use records::{
 pub use refusal::Refusal;
 pub use table::{Chunk, Form, Name, Source, Table};
 
-/// The table of a whole file.
+/// The table of a whole file: its listing, once that is judged good.
 ///
 /// ```
 /// assert_eq!(symphedra::scan(b"not a recording"), Err(symphedra::Refusal::NotWave));
@@ -47,6 +47,57 @@ pub fn scan(file: &[u8]) -> Result<Table, Refusal> {
     let mut table = Table::empty();
     Refusal::check(ffi::scan(file, table.words_mut()))?;
     Ok(table)
+}
+
+/// The listing of a file: its table whatever its format. Neither fmt nor the block size is judged;
+/// [`judge`] does that over a listing, and [`scan`] is both in turn.
+///
+/// ```
+/// use symphedra::{judge, list, scan, Refusal};
+///
+/// # let mut file = [0; 84];
+/// # let fmt = symphedra::Fmt::pcm(2, 48_000, 16)?;
+/// # symphedra::write_file(symphedra::Form::Riff, &fmt, b"", b"", &[1, 0, 255, 255], &mut file)?;
+/// assert_eq!(judge(&file, &list(&file)?), Ok(()));
+///
+/// file[56] = 3; // the format tag, now that of float
+/// assert_eq!(scan(&file), Err(Refusal::BadFmt));
+/// let table = list(&file)?;
+/// assert_eq!(table.len(), 3);
+/// assert_eq!(judge(&file, &table), Err(Refusal::BadFmt));
+/// # Ok::<(), Refusal>(())
+/// ```
+pub fn list(file: &[u8]) -> Result<Table, Refusal> {
+    let mut table = Table::empty();
+    Refusal::check(ffi::list(file, table.words_mut()))?;
+    Ok(table)
+}
+
+/// Judges fmt and the block size of a file over its listing: [`Refusal::BadFmt`],
+/// [`Refusal::RaggedAudio`], or, ahead of both, [`Refusal::StaleListing`] where `table` isn't what
+/// [`list`] gives of the file now.
+pub fn judge(file: &[u8], table: &Table) -> Result<(), Refusal> {
+    judge_words(file, table.words())
+}
+
+/// [`judge`] over a listing's words that were kept somewhere: any words may be given, and what isn't
+/// a fresh listing of the file is [`Refusal::StaleListing`]. Words behind the last row aren't looked at.
+///
+/// ```
+/// use symphedra::{judge_words, list, Refusal};
+///
+/// # let mut file = [0; 84];
+/// # let fmt = symphedra::Fmt::pcm(2, 48_000, 16)?;
+/// # symphedra::write_file(symphedra::Form::Riff, &fmt, b"", b"", &[1, 0, 255, 255], &mut file)?;
+/// let kept: Vec<u64> = list(&file)?.words().to_vec();
+/// assert_eq!(judge_words(&file, &kept), Ok(()));
+///
+/// file[12..16].copy_from_slice(b"FREE"); // once JUNK
+/// assert_eq!(judge_words(&file, &kept), Err(Refusal::StaleListing));
+/// # Ok::<(), Refusal>(())
+/// ```
+pub fn judge_words(file: &[u8], words: &[u64]) -> Result<(), Refusal> {
+    Refusal::check(ffi::judge(file, words))
 }
 
 /// What the 32-bit walk shows.

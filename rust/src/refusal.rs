@@ -99,6 +99,8 @@ refusals! {
         "nothing is to be done: the file is RF64 or BW64";
     19 NoReserve "the first chunk isn't JUNK of 28 bytes or more"
         "there is no room for ds64 in the file; write the take anew as RF64 or BW64";
+    24 StaleListing "no fresh listing of this file"
+        "list the file again: it changed since, or has no listing";
 }
 
 impl Refusal {

@@ -135,6 +135,12 @@ impl Table {
         &mut self.words
     }
 
+    /// Its words as `symphedra.h` lays them out: the number of chunks, then four for each, and none
+    /// behind. They can be kept, and given to [`judge_words`](crate::judge_words) later.
+    pub fn words(&self) -> &[u64] {
+        self.words.get(..1 + 4 * self.len()).unwrap_or(&self.words)
+    }
+
     /// The number of chunks.
     pub fn len(&self) -> usize {
         let [count, ..] = self.words;

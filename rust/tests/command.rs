@@ -2,6 +2,7 @@
 #![cfg(feature = "command")]
 
 use std::fs::{self, File};
+use std::os::unix::ffi::OsStrExt;
 use std::os::unix::fs::{FileExt, MetadataExt, PermissionsExt};
 use std::path::{Path, PathBuf};
 use std::process::{Child, Command, Stdio};
@@ -196,6 +197,26 @@ fn golden_records() {
     }
     folder.put("sizes.wav", &sizes);
     follow(&folder, include_str!("golden/records.transcript"));
+}
+
+#[test]
+fn golden_triage() {
+    let folder = Folder::new();
+    let float: [u8; 16] = [3, 0, 2, 0, 0x80, 0xBB, 0, 0, 0, 0xDC, 5, 0, 8, 0, 32, 0];
+    let audio = [0; 8];
+    let chunks: [(&[u8; 4], &[u8]); 4] =
+        [(b"fmt ", &float), (b"fact", &[1, 0, 0, 0]), (b"data", &audio), (b"LIST", b"end")];
+    folder.put("float.wav", &file_of(b"RIFF", &chunks));
+    let head = ds64(0, 8, 1, &[(b"LIST", 3)]);
+    let chunks: [(&[u8; 4], &[u8]); 4] =
+        [(b"ds64", &head), (b"fmt ", &float), (b"LIST", b"end"), (b"data", &audio)];
+    let mut wide = file_of(b"RF64", &chunks);
+    for place in [92, 104] {
+        wide[place - 4..place].copy_from_slice(&ONES); // LIST and data
+    }
+    folder.put("wide.wav", &wide);
+    folder.put("take.wav", include_bytes!("../../samples/take.wav"));
+    follow(&folder, include_str!("golden/triage.transcript"));
 }
 
 #[test]
@@ -409,6 +430,21 @@ fn long_data(form: &[u8; 4], data: u64) {
     let (_, lines) = folder.json(&["info", "--json", "take.wav"]);
     assert_eq!(lines[0]["frames"].as_u64(), Some(data / 2));
     assert_eq!(lines[0]["length"].as_u64(), Some(length));
+
+    // The same listing of a format that is refused.
+    let (status, lines) = folder.json(&["judge", "--json", "take.wav"]);
+    assert_eq!((status, &lines[0]["refusal"]), (0, &serde_json::Value::Null));
+    let tag = sparse.wanted[1].1;
+    sparse.file.write_all_at(&[3], tag).unwrap();
+    for (question, wanted) in [("scan", Some(11)), ("judge", Some(11)), ("list", None)] {
+        let (status, lines) = folder.json(&[question, "--json", "take.wav"]);
+        assert_eq!(status, i32::from(wanted.is_some()), "{question}");
+        assert_eq!(lines[0]["refusal"].as_u64(), wanted, "{question}");
+        if question == "list" {
+            assert_eq!(chunks_of(&lines[0]), sparse.wanted);
+        }
+    }
+    sparse.file.write_all_at(&[1], tag).unwrap();
 
     // A data size past the end is 8, and the low half of a size is not the size.
     sparse.file.write_all_at(&length.to_le_bytes(), 28).unwrap();
@@ -733,12 +769,19 @@ fn a_write_that_is_ended() {
 fn an_empty_file_is_refused() {
     let folder = Folder::new();
     folder.put("empty.wav", b"");
-    for arguments in
-        [&["scan"][..], &["walk"], &["samples"], &["info"], &["upgrade", "--to", "rf64"]]
-    {
+    let cases = [
+        (&["scan"][..], "refusal 1:"),
+        (&["list"], "refusal 1:"),
+        (&["judge"], "refusal 24:"),
+        (&["walk"], "refusal 1:"),
+        (&["samples"], "refusal 1:"),
+        (&["info"], "refusal 1:"),
+        (&["upgrade", "--to", "rf64"], "refusal 1:"),
+    ];
+    for (arguments, wanted) in cases {
         let ran = folder.run(&[arguments, &["empty.wav"]].concat());
         assert_eq!(ran.status, 1, "{arguments:?}");
-        assert!((ran.out + &ran.err).contains("refusal 1:"), "{arguments:?}");
+        assert!((ran.out + &ran.err).contains(wanted), "{arguments:?}");
     }
 }
 
@@ -757,9 +800,11 @@ fn what_cannot_be_mapped() {
         ("missing/missing", "can't open it: there is no such file"),
     ];
     for (name, wanted) in cases {
-        let ran = folder.run(&["scan", name]);
-        assert_eq!((ran.status, ran.out.as_str()), (2, ""), "{name}");
-        assert!(ran.err.starts_with("symphedra: ") && ran.err.contains(wanted), "{}", ran.err);
+        for question in ["scan", "list", "judge"] {
+            let ran = folder.run(&[question, name]);
+            assert_eq!((ran.status, ran.out.as_str()), (2, ""), "{question} {name}");
+            assert!(ran.err.starts_with("symphedra: ") && ran.err.contains(wanted), "{}", ran.err);
+        }
     }
     // A folder or a missing file can't be opened for writing either.
     assert_eq!(folder.run(&["upgrade", "--to", "rf64", "folder"]).status, 2);
@@ -772,7 +817,12 @@ fn a_locked_file() {
     folder.put("take.wav", include_bytes!("../../samples/take.wav"));
     let file = File::open(folder.path("take.wav")).unwrap();
     file.lock().unwrap();
-    for arguments in [&["scan", "take.wav"][..], &["upgrade", "--to", "rf64", "take.wav"]] {
+    for arguments in [
+        &["scan", "take.wav"][..],
+        &["list", "take.wav"],
+        &["judge", "take.wav"],
+        &["upgrade", "--to", "rf64", "take.wav"],
+    ] {
         let ran = folder.run(arguments);
         assert_eq!(ran.status, 2);
         assert!(ran.err.contains("another program has it locked"), "{}", ran.err);
@@ -802,9 +852,12 @@ fn a_refused_upgrade_does_not_touch_the_file() {
 fn bad_usage() {
     let folder = Folder::new();
     folder.put("a", b"");
-    let cases: [&[&str]; 9] = [
+    let cases: [&[&str]; 12] = [
         &[],
         &["scan"],
+        &["list"],
+        &["judge"],
+        &["judge", "--to", "rf64", "a"],
         &["listen", "a"],
         &["scan", "--xml", "a"],
         &["upgrade", "a"],
@@ -844,9 +897,25 @@ fn bad_usage() {
 
 #[test]
 fn help_says_what_the_column_says() {
-    let help = Folder::new().run(&["help", "scan"]).out;
-    for word in ["\n  own  ", "\n  ds64  ", "\n  entry N  ", "\"from\""] {
-        assert!(help.contains(word), "{help}");
+    for question in ["scan", "list"] {
+        let help = Folder::new().run(&["help", question]).out;
+        for word in ["\n  own  ", "\n  ds64  ", "\n  entry N  ", "\"from\""] {
+            assert!(help.contains(word), "{help}");
+        }
+    }
+}
+
+#[test]
+fn a_name_that_is_not_utf_8() {
+    let folder = Folder::new();
+    let name = std::ffi::OsStr::from_bytes(b"t\xFFke.wav");
+    fs::write(folder.0.join(name), include_bytes!("../../samples/take.wav")).unwrap();
+    for question in ["scan", "list", "judge"] {
+        let ran = Ran::of(folder.command(&[question]).arg(name).output().unwrap());
+        assert_eq!(ran.status, 0, "{question}");
+        assert!(ran.out.starts_with("t\u{fffd}ke.wav: "), "{}", ran.out);
+        let ran = Ran::of(folder.command(&[question, "--json"]).arg(name).output().unwrap());
+        assert!(ran.out.starts_with("{\"file\":\"t\\ufffdke.wav\","), "{}", ran.out);
     }
 }
 
@@ -880,7 +949,7 @@ fn no_escapes_off_a_terminal() {
     let chunks: [(&[u8; 4], &[u8]); 3] = [(b"fmt ", &FMT), (b"\x1B[2J", b""), (b"data", b"")];
     let name = "\u{1b}[31mred.wav";
     folder.put(name, &file_of(b"RIFF", &chunks));
-    for question in ["scan", "walk", "info", "samples"] {
+    for question in ["scan", "list", "judge", "walk", "info", "samples"] {
         let ran = folder.run(&[question, name]);
         assert_eq!(ran.status, 0);
         assert!(!ran.out.contains('\u{1b}') && !ran.err.contains('\u{1b}'), "{}", ran.out);

@@ -1,6 +1,7 @@
 //! The library beside the second implementation, over a million generated files and as many records:
 //! every export, every word and byte of every output, with guard pages around all that is lent; the
-//! tables of upgraded files beside the old ones; and the crate's own tables and records.
+//! judgement over listings of every kind; the walk beside the listing, the tables of upgraded files beside
+//! the old ones; and the crate's own tables and records.
 //!
 //! SYMPHEDRA_FILES and SYMPHEDRA_SEED change how many and which.
 
@@ -10,14 +11,16 @@ mod reference;
 
 use generate::Rng;
 use guard::{Guarded, Side, Zeros};
-use reference::{BextFields, Chunk, FileParts, Form, Mark, Refused, Scan};
+use reference::{table, BextFields, Chunk, FileParts, Form, Listing, Mark, Refused};
 use std::fmt::{Debug, Display};
 use std::ops::AddAssign;
 use std::thread;
 use symphedra::{ffi, Bext, Chna, ChnaEntry, Source};
 
-const EXPORTS: [(&str, &[u32]); 16] = [
+const EXPORTS: [(&str, &[u32]); 18] = [
     ("scan", &[0, 1, 2, 3, 4, 5, 6, 7, 8, 9, 10, 11, 12, 15]),
+    ("list", &[0, 1, 2, 3, 4, 5, 6, 7, 8, 9, 10, 15]),
+    ("judge", &[0, 11, 12, 24]),
     ("walk32", &[0, 1, 2, 5, 6, 7, 8, 9, 15]),
     ("sample_count", &[0, 1, 2, 3, 4, 5, 6, 7, 8, 9, 10, 11, 12, 15]),
     ("upgrade_rf64", &[0, 1, 2, 3, 4, 5, 6, 7, 8, 9, 10, 11, 12, 18, 19]),
@@ -37,7 +40,7 @@ const EXPORTS: [(&str, &[u32]); 16] = [
 
 /// How often each export gave each number.
 #[derive(Default)]
-struct Tally([[u64; 20]; EXPORTS.len()]);
+struct Tally([[u64; 25]; EXPORTS.len()]);
 
 impl Tally {
     fn count(&mut self, export: &str, number: u32) {
@@ -46,16 +49,25 @@ impl Tally {
     }
 
     fn print(&self) {
+        let given = |number: &u32| EXPORTS.iter().any(|(_, numbers)| numbers.contains(number));
+        let numbers: Vec<u32> = (0..25).filter(given).collect();
         print!("{:14}", "");
-        (0..20).for_each(|number| print!("{number:>8}"));
+        numbers.iter().for_each(|number| print!("{number:>8}"));
         println!();
         for ((name, _), row) in EXPORTS.iter().zip(&self.0) {
             print!("{name:14}");
-            for count in row {
-                print!("{:>8}", if *count == 0 { String::new() } else { count.to_string() });
-            }
+            numbers.iter().for_each(|number| print!("{:>8}", shown(row[*number as usize])));
             println!();
         }
+    }
+}
+
+/// A count, nothing for none.
+fn shown(count: u64) -> String {
+    if count == 0 {
+        String::new()
+    } else {
+        count.to_string()
     }
 }
 
@@ -91,15 +103,16 @@ struct Marks {
 }
 
 impl Marks {
-    fn count(&mut self, file: &[u8], scan: &Scan) {
-        let used: Vec<Mark> = scan.chunks.iter().map(|chunk| chunk.mark).collect();
+    fn count(&mut self, file: &[u8], listing: &Listing) {
+        let Listing { chunks, entries, .. } = listing;
+        let used: Vec<Mark> = chunks.iter().map(|chunk| chunk.mark).collect();
         // The name behind the last entry, where ds64 has 12 bytes there.
-        let behind = 48 + 12 * scan.entries.len();
-        let ds64_end = scan.chunks[0].place + scan.chunks[0].size as usize;
+        let behind = 48 + 12 * entries.len();
+        let ds64_end = chunks[0].place + chunks[0].size as usize;
         let past = (behind + 12 <= ds64_end).then(|| reference::name_at(file, behind));
-        for chunk in &scan.chunks {
+        for chunk in chunks {
             let named = |entry: &([u8; 4], u64)| entry.0 == chunk.name;
-            let beside = scan.entries.iter().any(named);
+            let beside = entries.iter().any(named);
             let data = chunk.name == *b"data";
             let kinds = match chunk.mark {
                 Mark::OwnField => {
@@ -111,9 +124,9 @@ impl Marks {
                     let unused = (0..position).any(|i| !used.contains(&Mark::Entry(i)));
                     vec![
                         ("entry", true),
-                        ("entry_repeated", scan.entries[position + 1..].iter().any(named)),
+                        ("entry_repeated", entries[position + 1..].iter().any(named)),
                         ("entry_past_unused", unused),
-                        ("entry_of_sixteen", scan.entries.len() == 16),
+                        ("entry_of_sixteen", entries.len() == 16),
                         ("entry_past_count", past == Some(chunk.name)),
                     ]
                 }
@@ -142,6 +155,98 @@ impl AddAssign for Marks {
     }
 }
 
+/// How a judgement ended: the number given, and for 24 what stood behind it, by the number that a fresh
+/// listing of the file would have given.
+const ENDS: [&str; 6] = ["0", "11", "12", "24", "24_for_11", "24_for_12"];
+const JUDGED: &[usize] = &[0, 1, 2];
+const NOT_FRESH: &[usize] = &[3, 4, 5];
+
+/// What a file was judged over, and the ends that this has.
+const LISTINGS: [(&str, &[usize]); 13] = [
+    ("fresh", JUDGED),
+    ("fresh_and_more", JUDGED),          // any words behind the last row
+    ("stale_byte", &[0, 1, 2, 3, 4, 5]), // of the file before one of its bytes was changed
+    ("stale_upgrade", NOT_FRESH), // of its upgraded form, or of the form it was upgraded from
+    ("stale_other", NOT_FRESH),   // of another file
+    ("cut", NOT_FRESH),           // too few words for the rows
+    ("forged_name", NOT_FRESH),   // one word of one row altered
+    ("forged_place", NOT_FRESH),
+    ("forged_size", NOT_FRESH),
+    ("forged_source", NOT_FRESH),
+    ("forged_count", NOT_FRESH),
+    ("swapped", NOT_FRESH), // two rows
+    ("no_listing", &[3]),   // any words, and a file that has no listing
+];
+
+/// How often each kind of listing had each end; and the walk beside fresh listings by what is judged of
+/// them: the files of which it shows all rows, and those in which it stops.
+#[derive(Default)]
+struct Listings {
+    judged: [[u64; ENDS.len()]; LISTINGS.len()],
+    walked: [[u64; JUDGED.len()]; 2],
+}
+
+/// Where the end stands, `fresh` being the number over a fresh listing, if there is one.
+fn end(number: u32, fresh: Option<u32>) -> usize {
+    match (number, fresh) {
+        (0, _) => 0,
+        (11, _) => 1,
+        (12, _) => 2,
+        (_, Some(11)) => 4,
+        (_, Some(12)) => 5,
+        _ => 3,
+    }
+}
+
+impl Listings {
+    fn count(&mut self, kind: &str, number: u32, fresh: Option<u32>) {
+        let row = LISTINGS.iter().position(|(name, _)| *name == kind).unwrap();
+        self.judged[row][end(number, fresh)] += 1;
+    }
+
+    fn print(&self) {
+        let line = |name: &str, counts: &[u64]| {
+            print!("{name:14}");
+            counts.iter().for_each(|count| print!("{:>10}", shown(*count)));
+            println!();
+        };
+        println!("judged over listings of each kind");
+        print!("{:14}", "");
+        ENDS.iter().for_each(|end| print!("{end:>10}"));
+        println!();
+        LISTINGS.iter().zip(&self.judged).for_each(|((kind, _), counts)| line(kind, counts));
+        line("walk_shows_all", &self.walked[0]);
+        line("walk_stops", &self.walked[1]);
+    }
+}
+
+impl AddAssign for Listings {
+    fn add_assign(&mut self, other: Self) {
+        for (row, more) in self.judged.iter_mut().zip(other.judged) {
+            row.iter_mut().zip(more).for_each(|(count, more)| *count += more);
+        }
+        for (row, more) in self.walked.iter_mut().zip(other.walked) {
+            row.iter_mut().zip(more).for_each(|(count, more)| *count += more);
+        }
+    }
+}
+
+/// All that is counted.
+#[derive(Default)]
+struct Counts {
+    tally: Tally,
+    marks: Marks,
+    listings: Listings,
+}
+
+impl AddAssign for Counts {
+    fn add_assign(&mut self, other: Self) {
+        self.tally += other.tally;
+        self.marks += other.marks;
+        self.listings += other.listings;
+    }
+}
+
 /// What the outputs hold before a call.
 const OLD_WORD: u64 = 0xD1D1_D1D1_D1D1_D1D1;
 const OLD_BYTE: u8 = 0xD2;
@@ -155,8 +260,7 @@ struct Bench {
     written: Guarded,
     out: Guarded,
     inputs: [Guarded; 8],
-    tally: Tally,
-    marks: Marks,
+    counts: Counts,
 }
 
 const LARGEST_FILE: usize = 4 << 20;
@@ -196,8 +300,7 @@ impl Bench {
             written: Guarded::new(64),
             out: Guarded::new(LARGEST_FILE),
             inputs: std::array::from_fn(|_| Guarded::new(LARGEST_FILE)),
-            tally: Tally::default(),
-            marks: Marks::default(),
+            counts: Counts::default(),
         }
     }
 
@@ -239,7 +342,7 @@ impl Bench {
             check(self.seed, what, input, number, wanted_number);
             check(self.seed, what, input, &*out, &wanted_words);
             assert!(self.words.marks_whole(), "{export} wrote outside, seed {}", self.seed);
-            self.tally.count(export, number);
+            self.counts.tally.count(export, number);
         }
         assert!(lent == input, "{export} changed its input, seed {}", self.seed);
         assert!(self.file.marks_whole(), "{export} touched bytes outside, seed {}", self.seed);
@@ -261,7 +364,7 @@ impl Bench {
         assert!(self.file.marks_whole(), "{export} touched bytes outside, seed {}", self.seed);
         check(self.seed, export, file, number, wanted.err().unwrap_or(0));
         check(self.seed, export, file, same, true);
-        self.tally.count(export, number);
+        self.counts.tally.count(export, number);
     }
 
     /// A writer: its inputs lent in guard pages, an output of about the right length, and most often
@@ -310,40 +413,46 @@ impl Bench {
         check(self.seed, export, &input, number, wanted.as_ref().err().copied().unwrap_or(0));
         check(self.seed, export, &input, out_good, true);
         check(self.seed, export, &input, got_words, wanted_words);
-        self.tally.count(export, number);
+        self.counts.tally.count(export, number);
     }
 
     fn one_file(&mut self) {
         let file = generate::file(&mut self.rng);
-        let scan = reference::scan(&file);
+        let listing = reference::list(&file);
+        let scan = reference::scan(&file, &listing);
+        let scan = scan.as_ref().map_err(|number| *number);
         let (shown, stop) = reference::walk32(&file);
         self.words_out("scan", &file, 257, ffi::scan, || match &scan {
-            Ok(scan) => (0, table(&scan.chunks)),
+            Ok(scan) => (0, table(&scan.listing.chunks)),
+            Err(number) => (*number, vec![0]),
+        });
+        self.words_out("list", &file, 257, ffi::list, || match &listing {
+            Ok(listing) => (0, table(&listing.chunks)),
             Err(number) => (*number, vec![0]),
         });
         self.words_out("walk32", &file, 257, ffi::walk32, || (stop, table(&shown)));
-        self.words_out(
-            "sample_count",
-            &file,
-            2,
-            ffi::sample_count,
-            || match reference::sample_count(&file) {
-                Ok(Some(count)) => (0, vec![1, count]),
-                Ok(None) => (0, vec![0, 0]),
-                Err(number) => (number, vec![0, 0]),
+        match &listing {
+            Ok(listing) => self.listed(&file, listing),
+            Err(_) => self.not_listed(&file, &table(&shown)),
+        }
+        self.words_out("sample_count", &file, 2, ffi::sample_count, || match scan {
+            Ok(scan) => match reference::sample_count(&file, scan) {
+                Some(count) => (0, vec![1, count]),
+                None => (0, vec![0, 0]),
             },
-        );
-        let rf64 = reference::upgrade(&file, Form::Rf64);
-        let bw64 = reference::upgrade(&file, Form::Bw64);
+            Err(number) => (number, vec![0, 0]),
+        });
+        let rf64 = scan.and_then(|scan| reference::upgrade(&file, scan, Form::Rf64));
+        let bw64 = scan.and_then(|scan| reference::upgrade(&file, scan, Form::Bw64));
         if let (Ok(scan), Ok(rf64), Ok(bw64)) = (&scan, &rf64, &bw64) {
             let new = if self.rng.once_in(2) { rf64 } else { bw64 };
-            self.upgraded_table(&scan.chunks, new);
+            self.upgraded_table(&scan.listing.chunks, new);
         }
         self.upgrade("upgrade_rf64", &file, ffi::upgrade_rf64, rf64);
         self.upgrade("upgrade_bw64", &file, ffi::upgrade_bw64, bw64);
-        if let Some(scan) = scan.as_ref().ok().filter(|scan| scan.form != Form::Riff) {
-            self.table_by_the_crate(&file, &scan.chunks);
-            self.marks.count(&file, scan);
+        if let Some(scan) = scan.ok().filter(|scan| scan.listing.form != Form::Riff) {
+            self.table_by_the_crate(&file, &scan.listing.chunks);
+            self.counts.marks.count(&file, scan.listing);
         }
 
         // The records as the file holds them.
@@ -361,17 +470,109 @@ impl Bench {
         }
     }
 
-    /// After an upgrade the table is the old one but for the first name and data's mark, and the walk
-    /// shows what stands ahead of data.
+    /// A file that is listed, whatever is judged of it: judged over listings of every kind, and walked.
+    fn listed(&mut self, file: &[u8], listing: &Listing) {
+        let fresh = table(&listing.chunks);
+        let mut given = vec![("fresh", fresh.clone())];
+        given.extend((0..2).map(|_| generate::near_listing(&mut self.rng, &fresh)));
+        if self.rng.once_in(128) {
+            given.extend(generate::all_forged(&fresh));
+        }
+        let first = listing.chunks[0];
+        if first.name == *b"JUNK" && first.size >= 28 && self.rng.once_in(4) {
+            given.push(("stale_upgrade", table(&upgraded(&listing.chunks))));
+        }
+        if self.rng.once_in(8) {
+            let other = reference::list(&generate::file(&mut self.rng));
+            let other = other.map(|listing| table(&listing.chunks)).ok();
+            given.extend(other.filter(|words| *words != fresh).map(|words| ("stale_other", words)));
+        }
+        let number = self.judge(file, Some(listing), &given);
+        self.walk_beside_listing(file, number);
+        if listing.form != Form::Riff {
+            self.judged_by_the_crate(file, &fresh, number);
+        }
+        if self.rng.once_in(4) {
+            let place = self.rng.pick(&listing.chunks).place;
+            let touched = generate::touched(&mut self.rng, file, place);
+            let now = reference::list(&touched).ok();
+            self.judge(&touched, now.as_ref(), &[("stale_byte", fresh)]);
+        }
+    }
+
+    /// A file that has no listing is judged the same over any words.
+    fn not_listed(&mut self, file: &[u8], walked: &[u64]) {
+        let words = match self.rng.below(4) {
+            0 => Vec::new(),
+            1 => vec![0],
+            2 => generate::any_words(&mut self.rng),
+            _ => walked.to_vec(),
+        };
+        self.judge(file, None, &[("no_listing", words)]);
+    }
+
+    /// Judges the file over each of these words; gives the number that a fresh listing has, 24 if there is
+    /// none.
+    fn judge(
+        &mut self,
+        file: &[u8],
+        listing: Option<&Listing>,
+        given: &[(&'static str, Vec<u64>)],
+    ) -> u32 {
+        let wanted = |words: &[u64]| reference::judge(file, listing, words).err().unwrap_or(0);
+        let fresh = listing.map(|listing| wanted(&table(&listing.chunks)));
+        let lent = self.file.copy(side(&mut self.rng), file);
+        for (kind, words) in given {
+            let table = self.words.words(side(&mut self.rng), words.len());
+            table.copy_from_slice(words);
+            let number = ffi::judge(lent, table);
+            let what = format_args!("judge over {kind}, {words:?}");
+            check(self.seed, what, file, number, wanted(words));
+            assert!(table == words, "judge changed a listing, seed {}", self.seed);
+            assert!(self.words.marks_whole(), "judge wrote outside, seed {}", self.seed);
+            self.counts.tally.count("judge", number);
+            self.counts.listings.count(kind, number, fresh);
+        }
+        assert!(lent == file, "judge changed its file, seed {}", self.seed);
+        assert!(self.file.marks_whole(), "judge wrote outside, seed {}", self.seed);
+        fresh.unwrap_or(24)
+    }
+
+    /// The walk shows the listing's rows up to the first whose own field is all ones, and stops there with
+    /// 7; or all of them. `number` is what is judged of the file.
+    fn walk_beside_listing(&mut self, file: &[u8], number: u32) {
+        let (mut listed, mut walked) = ([OLD_WORD; 257], [OLD_WORD; 257]);
+        check(self.seed, "list", file, ffi::list(file, &mut listed), 0);
+        let stop = ffi::walk32(file, &mut walked);
+        let rows = &listed[1..][..4 * listed[0] as usize];
+        let all_ones = |row: &[u64]| file[row[1] as usize - 4..][..4] == [0xFF; 4];
+        let stops = rows.chunks(4).position(all_ones);
+        let count = stops.unwrap_or(rows.len() / 4);
+        let shown = (walked[0] as usize, &walked[1..][..4 * count], stop);
+        let wanted = (count, &rows[..4 * count], if stops.is_some() { 7 } else { 0 });
+        check(self.seed, "the walk beside the listing", file, shown, wanted);
+        self.counts.listings.walked[usize::from(stops.is_some())][end(number, None)] += 1;
+    }
+
+    /// The crate's listing, and what it judges of it.
+    fn judged_by_the_crate(&self, file: &[u8], fresh: &[u64], number: u32) {
+        let listing = symphedra::list(file).expect("a file that is listed");
+        check(self.seed, "the crate's listing", file, listing.words(), fresh);
+        let judged =
+            symphedra::judge(file, &listing).map_or_else(|refusal| refusal.number(), |()| 0);
+        check(self.seed, "the crate's judgement", file, judged, number);
+    }
+
+    /// After an upgrade the table is the old one but for the first name and data's mark, the old listing
+    /// is stale, and the walk shows what stands ahead of data.
     fn upgraded_table(&mut self, old: &[Chunk], new: &[u8]) {
-        let mut wanted = old.to_vec();
+        let wanted = upgraded(old);
         let data = wanted.iter().position(|chunk| chunk.name == *b"data").unwrap();
-        assert_eq!(wanted[data].mark, Mark::OwnField);
-        wanted[0].name = *b"ds64";
-        wanted[data].mark = Mark::DataSize;
+        let listings = [("stale_upgrade", table(old)), ("fresh", table(&wanted))];
+        self.judge(new, reference::list(new).ok().as_ref(), &listings);
         self.words_out("scan", new, 257, ffi::scan, || (0, table(&wanted)));
         self.words_out("walk32", new, 257, ffi::walk32, || (7, table(&wanted[..data])));
-        self.marks.upgraded += 1;
+        self.counts.marks.upgraded += 1;
     }
 
     /// The crate's rows, each with where its size came from.
@@ -654,7 +855,7 @@ impl Bench {
                 let parts = FileParts { form, fmt: &fmt, bext, chna: b"", audio };
                 assert_eq!(parts.length().map_or_else(|number| number, |_| 15), wanted);
             }
-            self.tally.count(export, number);
+            self.counts.tally.count(export, number);
         }
     }
 
@@ -670,13 +871,13 @@ impl Bench {
         let mut parts = [OLD_WORD; 14];
         assert_eq!(ffi::bext_parts(payload, &mut parts), 0);
         assert_eq!(parts, reference::bext_parts(payload));
-        self.tally.count("bext_parts", 0);
+        self.counts.tally.count("bext_parts", 0);
         for i in used.iter().flat_map(|i| i - 1..=i + 1) {
             let mut words = [OLD_WORD; 5];
             assert_eq!(ffi::chna_entry(payload, i, &mut words), 0);
             assert_eq!(words, reference::chna_entry(payload, i), "entry {i}");
             assert_eq!(words[0] == 1, used.contains(&i), "entry {i}");
-            self.tally.count("chna_entry", 0);
+            self.counts.tally.count("chna_entry", 0);
         }
     }
 }
@@ -716,6 +917,16 @@ fn entry(payload: &[u8], i: usize) -> Option<ChnaEntry<'_>> {
     })
 }
 
+/// The table of the upgraded file from the old one.
+fn upgraded(old: &[Chunk]) -> Vec<Chunk> {
+    let mut new = old.to_vec();
+    new[0].name = *b"ds64";
+    let data = new.iter_mut().find(|chunk| chunk.name == *b"data").unwrap();
+    assert_eq!(data.mark, Mark::OwnField);
+    data.mark = Mark::DataSize;
+    new
+}
+
 type FileWriter = fn(&[u64], &[u8], &[u8], &[u8], &mut [u8], &mut [u64]) -> u32;
 
 fn file_writer(form: Form) -> (&'static str, FileWriter) {
@@ -724,16 +935,6 @@ fn file_writer(form: Form) -> (&'static str, FileWriter) {
         Form::Rf64 => ("write_rf64", ffi::write_rf64),
         Form::Bw64 => ("write_bw64", ffi::write_bw64),
     }
-}
-
-/// A table's words up to its last chunk.
-fn table(chunks: &[Chunk]) -> Vec<u64> {
-    let mut words = vec![chunks.len() as u64];
-    for chunk in chunks {
-        let name = u32::from_le_bytes(chunk.name);
-        words.extend([name.into(), chunk.place as u64, chunk.size, chunk.mark.word()]);
-    }
-    words
 }
 
 /// A reader's words, zeros after a refusal.
@@ -753,7 +954,7 @@ fn a_million_files_and_records() {
     let files = setting("SYMPHEDRA_FILES", 1_000_000);
     let seed = setting("SYMPHEDRA_SEED", 1);
     let threads = thread::available_parallelism().map_or(1, |n| n.get() as u64);
-    let (mut tally, mut marks) = (Tally::default(), Marks::default());
+    let mut counts = Counts::default();
     thread::scope(|scope| {
         let runs: Vec<_> = (0..threads)
             .map(|thread| {
@@ -770,20 +971,20 @@ fn a_million_files_and_records() {
                         bench.too_large();
                         bench.past_4_gib();
                     }
-                    (bench.tally, bench.marks)
+                    bench.counts
                 })
             })
             .collect();
         for run in runs {
-            let (more_tally, more_marks) = run.join().expect("a thread without failure");
-            tally += more_tally;
-            marks += more_marks;
+            counts += run.join().expect("a thread without failure");
         }
     });
+    let Counts { tally, marks, listings } = counts;
     println!("{files} files, seed {seed}: how often each number was given");
     tally.print();
     println!("where sizes came from, rows of accepted RF64 and BW64 files");
     marks.print();
+    listings.print();
     for ((export, numbers), row) in EXPORTS.iter().zip(&tally.0) {
         for (number, count) in row.iter().enumerate() {
             let expected = numbers.contains(&(number as u32));
@@ -799,4 +1000,13 @@ fn a_million_files_and_records() {
         assert!(*count > often, "entry {position}: {count} times");
     }
     assert!(marks.upgraded > often, "upgraded: {} times", marks.upgraded);
+    for ((kind, ends), counts) in LISTINGS.iter().zip(&listings.judged) {
+        for (end, count) in counts.iter().enumerate() {
+            let good = if ends.contains(&end) { *count > often } else { *count == 0 };
+            assert!(good, "{kind} judged {}: {count} times", ENDS[end]);
+        }
+    }
+    for count in listings.walked.iter().flatten() {
+        assert!(*count > often, "the walk beside the listing: {count} times");
+    }
 }

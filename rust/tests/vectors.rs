@@ -1,10 +1,12 @@
 //! The document's own cases, through the safe crate: the whole file of 84 bytes, the twelve cases at
-//! the edges, reserves, 64 and 65 chunks, where sizes came from, and each edge of each record's rules.
+//! the edges, reserves, 64 and 65 chunks, where sizes came from, listings and what is judged over them, and
+//! each edge of each record's rules.
 //! Tables, the parts of bext and the entries of chna are also looked at word by word.
 
 use symphedra::{
-    ffi, read_bext, read_chna, read_fmt, sample_count, scan, upgrade, walk32, write_bext,
-    write_chna, write_file, write_fmt, written_len, Bext, Chna, Fmt, Form, Refusal, Source, Target,
+    ffi, judge, judge_words, list, read_bext, read_chna, read_fmt, sample_count, scan, upgrade,
+    walk32, write_bext, write_chna, write_file, write_fmt, written_len, Bext, Chna, Fmt, Form,
+    Refusal, Source, Target,
 };
 
 type Row = ([u8; 4], u64, u64, Source);
@@ -359,28 +361,29 @@ fn an_upgrade_changes_where_the_data_size_comes_from() {
     }
 }
 
-/// The file has every kind of source, and every kind of entry that is no source.
+/// Every kind of entry, and below every kind of chunk that asks for one or doesn't.
+const ENTRIES: [(&[u8; 4], u64); 8] = [
+    (b"none", 2),  // 0: for no chunk
+    (b"data", 2),  // 1: has no effect, data has its own place in ds64
+    (b"LIST", 6),  // 2: for the two LIST whose field is all ones
+    (b"axml", 4),  // 3: has no effect, axml's own field is 4 too
+    (b"fmt ", 16), // 4
+    (b"LIST", 6),  // 5: has no effect, entry 2 is the first
+    (b"ds64", 9),  // 6: has no effect, ds64's own field is never all ones
+    (b"cue ", 2),  // past the count
+];
+const CHUNKS: [(&[u8; 4], u32, &[u8]); 7] = [
+    (b"LIST", ONES, b"123456"),
+    (b"fmt ", ONES, &FMT),
+    (b"axml", 4, b"<a/>"),
+    (b"LIST", 2, b"12"),
+    (b"data", ONES, b"12345678"),
+    (b"LIST", ONES, b"654321"),
+    (b"cue ", 2, b"ab"),
+];
+
 #[test]
 fn sizes_from_all_over() {
-    let entries: [(&[u8; 4], u64); 8] = [
-        (b"none", 2),  // 0: for no chunk
-        (b"data", 2),  // 1: has no effect, data has its own place in ds64
-        (b"LIST", 6),  // 2: for the two LIST whose field is all ones
-        (b"axml", 4),  // 3: has no effect, axml's own field is 4 too
-        (b"fmt ", 16), // 4
-        (b"LIST", 6),  // 5: has no effect, entry 2 is the first
-        (b"ds64", 9),  // 6: has no effect, ds64's own field is never all ones
-        (b"cue ", 2),  // past the count
-    ];
-    let chunks: [(&[u8; 4], u32, &[u8]); 7] = [
-        (b"LIST", ONES, b"123456"),
-        (b"fmt ", ONES, &FMT),
-        (b"axml", 4, b"<a/>"),
-        (b"LIST", 2, b"12"),
-        (b"data", ONES, b"12345678"),
-        (b"LIST", ONES, b"654321"),
-        (b"cue ", 2, b"ab"),
-    ];
     // ds64 has 28 + 8 x 12 = 124 bytes, so the next header stands at 144.
     let table = vec![
         (*b"ds64", [20, 124, 0]),
@@ -393,7 +396,7 @@ fn sizes_from_all_over() {
         (*b"cue ", [242, 2, 0]),
     ];
     for form in [b"RF64", b"BW64"] {
-        let file = wide(form, 8, 7, &entries, &chunks);
+        let file = wide(form, 8, 7, &ENTRIES, &CHUNKS);
         assert_eq!(file.len(), 244);
         assert_eq!(row_words(ffi::scan, &file), (0, table.clone()));
         // The walk stops at the first LIST and has ds64's own field.
@@ -402,10 +405,10 @@ fn sizes_from_all_over() {
         assert_eq!(sources, ["own", "entry 2", "entry 4", "own", "own", "ds64", "entry 2", "own"]);
     }
     // Without its entry, or with it only past the count, an all-ones field has no size.
-    let mut unknown = chunks;
+    let mut unknown = CHUNKS;
     unknown[6].1 = ONES;
-    assert_eq!(row_words(ffi::scan, &wide(b"RF64", 8, 7, &entries, &unknown)), (7, vec![]));
-    let known = row_words(ffi::scan, &wide(b"RF64", 8, 8, &entries, &unknown));
+    assert_eq!(row_words(ffi::scan, &wide(b"RF64", 8, 7, &ENTRIES, &unknown)), (7, vec![]));
+    let known = row_words(ffi::scan, &wide(b"RF64", 8, 8, &ENTRIES, &unknown));
     assert_eq!((known.0, known.1[7]), (0, (*b"cue ", [242, 2, 9]))); // 2 + 7
 }
 
@@ -467,6 +470,236 @@ fn tables_that_differ_only_in_a_source_differ() {
     };
     assert_eq!(plain(&own), plain(&from_ds64));
     assert_eq!(format!("{:>5}|{:<8}|", Source::DataSize, Source::Entry(15)), " ds64|entry 15|");
+}
+
+// ---- listing and judging ----
+
+/// The words of a file's listing.
+fn listed(file: &[u8]) -> Vec<u64> {
+    list(file).unwrap().words().to_vec()
+}
+
+/// The document's file with the tag of float.
+fn float_file() -> Vec<u8> {
+    let mut file = whole_file();
+    file[56] = 3;
+    file
+}
+
+/// A file whose listing is as long as one can be.
+fn sixty_four_chunks() -> Vec<u8> {
+    let mut chunks: Vec<(&[u8; 4], &[u8])> = vec![(b"fmt ", &FMT), (b"data", b"")];
+    chunks.resize(64, (b"fill", b""));
+    riff(&chunks)
+}
+
+/// The listing, its judgement, and the scan as both in turn.
+fn in_turn(file: &[u8], table: &[Row], judged: Result<(), Refusal>) {
+    let listing = list(file).unwrap();
+    assert_eq!(rows(&listing), table);
+    assert_eq!(judge(file, &listing), judged);
+    assert_eq!(scanned(file), judged.map(|()| table.to_vec()));
+}
+
+#[test]
+fn an_accepted_file_is_listed_and_judged() {
+    let file = whole_file();
+    in_turn(&file, &TABLE, Ok(()));
+    let name = |name| u64::from(u32::from_le_bytes(name));
+    let (junk, fmt, data) = (name(*b"JUNK"), name(*b"fmt "), name(*b"data"));
+    assert_eq!(listed(&file), [3, junk, 20, 28, 0, fmt, 56, 16, 0, data, 80, 4, 0]);
+    // The walk shows the same of a RIFF file.
+    assert_eq!(judge(&file, &walk32(&file).table), Ok(()));
+}
+
+#[test]
+fn a_refused_fmt_is_listed() {
+    // Tag 3, which is float; no channels; a block of 5; 12 bits.
+    for (at, byte) in [(0, 3), (2, 0), (12, 5), (14, 12)] {
+        let mut file = whole_file();
+        file[56 + at] = byte;
+        in_turn(&file, &TABLE, Err(Refusal::BadFmt));
+        assert_eq!(row_words(ffi::scan, &file), (11, vec![]));
+        assert_eq!(row_words(ffi::list, &file).0, 0);
+        assert_eq!(sample_count(&file), Err(Refusal::BadFmt));
+        assert_eq!(upgrade(&mut file, Target::Rf64), Err(Refusal::BadFmt));
+    }
+    for (size, data) in [(0, 28), (1, 30), (15, 44), (17, 46), (41, 70)] {
+        let file = riff(&[(b"fmt ", &[1; 41][..size]), (b"data", b"")]);
+        let table = [(*b"fmt ", 20, size as u64, Source::Own), (*b"data", data, 0, Source::Own)];
+        in_turn(&file, &table, Err(Refusal::BadFmt));
+    }
+}
+
+#[test]
+fn ragged_audio_is_listed() {
+    for size in [1, 2, 3, 5] {
+        let file = riff(&[(b"fmt ", &FMT), (b"data", &[0; 5][..size])]);
+        let table = [(*b"fmt ", 20, 16, Source::Own), (*b"data", 44, size as u64, Source::Own)];
+        in_turn(&file, &table, Err(Refusal::RaggedAudio));
+    }
+}
+
+#[test]
+fn a_file_without_listing() {
+    let with = |at: usize, bytes: &[u8]| {
+        let mut file = whole_file();
+        file[at..at + bytes.len()].copy_from_slice(bytes);
+        file
+    };
+    let mut cut_header = whole_file();
+    cut_header.extend([0; 7]);
+    cut_header[4] += 7;
+    let mut many: Vec<(&[u8; 4], &[u8])> = vec![(b"fmt ", &FMT), (b"data", b"")];
+    many.resize(65, (b"fill", b""));
+    // The last three break a rule of fmt too, or have ragged audio, which isn't looked at.
+    let files = [
+        (1, whole_file()[..11].to_vec()),
+        (2, with(0, b"FORM")),
+        (3, with(4, &[0xFF; 4])),
+        (4, with(0, b"RF64")),
+        (5, whole_file()[..83].to_vec()),
+        (6, cut_header),
+        (7, with(76, &[0xFF; 4])),
+        (8, with(76, &[5])),
+        (9, riff(&many)),
+        (10, riff(&[(b"data", b"1"), (b"fmt ", &FMT)])),
+        (10, riff(&[(b"fmt ", b""), (b"data", b""), (b"fact", b"123")])),
+        (10, riff(&[(b"fmt ", b"")])),
+    ];
+    for (number, file) in files {
+        assert_eq!(row_words(ffi::list, &file), (number, vec![]));
+        assert_eq!(list(&file).unwrap_err().number(), number);
+        let walked = walk32(&file).table;
+        let any: [&[u64]; 6] =
+            [&[], &[0], &[1; 5], &[u64::MAX; 257], walked.words(), &listed(&whole_file())];
+        for words in any {
+            assert_eq!(ffi::judge(&file, words), 24, "{number} and {words:?}");
+        }
+    }
+}
+
+#[test]
+fn a_stale_listing_is_told_ahead_of_the_format() {
+    let ragged = riff(&[(b"JUNK", &[0; 28]), (b"fmt ", &FMT), (b"data", b"12345")]);
+    for (mut file, number) in [(whole_file(), 0), (float_file(), 11), (ragged, 12)] {
+        let kept = listed(&file);
+        assert_eq!(ffi::judge(&file, &kept), number);
+        // What no row tells may change: JUNK's bytes, and the audio's.
+        file[20] ^= 1;
+        file[80] ^= 1;
+        assert_eq!(ffi::judge(&file, &kept), number);
+        file[12..16].copy_from_slice(b"FREE");
+        assert_eq!(ffi::judge(&file, &kept), 24);
+        assert_eq!(ffi::judge(&file, &listed(&file)), number);
+    }
+}
+
+#[test]
+fn an_upgrade_makes_a_listing_stale() {
+    let old = whole_file();
+    for target in [Target::Rf64, Target::Bw64] {
+        let mut new = old.clone();
+        upgrade(&mut new, target).unwrap();
+        assert_eq!(judge_words(&new, &listed(&new)), Ok(()));
+        assert_eq!(judge_words(&new, &listed(&old)), Err(Refusal::StaleListing));
+        assert_eq!(judge_words(&old, &listed(&new)), Err(Refusal::StaleListing));
+        // The walk shows less of a 64-bit file than its listing.
+        assert_eq!(judge(&new, &walk32(&new).table), Err(Refusal::StaleListing));
+    }
+}
+
+#[test]
+fn each_word_of_a_listing_counts() {
+    for form in [b"RF64", b"BW64"] {
+        let file = wide(form, 8, 7, &ENTRIES, &CHUNKS);
+        let fresh = listed(&file);
+        assert_eq!((fresh.len(), ffi::judge(&file, &fresh)), (33, 0));
+        for at in 0..fresh.len() {
+            let word = fresh[at];
+            let others =
+                [word.wrapping_add(1), word.wrapping_sub(1), word ^ 1 << 32, word ^ 1 << 63];
+            for other in others.into_iter().chain([0, u64::MAX]).filter(|other| *other != word) {
+                let mut words = fresh.clone();
+                words[at] = other;
+                let before = words.clone();
+                assert_eq!(ffi::judge(&file, &words), 24, "word {at}, {other}");
+                assert_eq!(words, before);
+            }
+        }
+    }
+}
+
+#[test]
+fn rows_in_another_order_are_no_listing() {
+    let file = whole_file();
+    let fresh = listed(&file);
+    for (a, b) in [(0, 1), (1, 2), (0, 2)] {
+        let mut words = fresh.clone();
+        (1..5).for_each(|i| words.swap(4 * a + i, 4 * b + i));
+        assert_eq!(ffi::judge(&file, &words), 24, "rows {a} and {b}");
+    }
+}
+
+#[test]
+fn numbers_of_rows_that_no_listing_has() {
+    for file in [whole_file(), sixty_four_chunks()] {
+        let fresh = listed(&file);
+        let rows = fresh[0];
+        let mut words = fresh.clone();
+        words.resize(300, 0);
+        assert_eq!(ffi::judge(&file, &words), 0);
+        // 4 and 32 times the last two are 4 and 32 times the right number in 64 bits.
+        for count in [
+            0,
+            1,
+            rows - 1,
+            rows + 1,
+            65,
+            66,
+            (1 << 32) + rows,
+            u64::MAX,
+            (1 << 62) + rows,
+            (1 << 59) + rows,
+        ] {
+            words[0] = count;
+            assert_eq!(ffi::judge(&file, &words), 24, "{count} rows");
+            assert_eq!(ffi::judge(&file, &words[..fresh.len()]), 24, "{count} rows");
+        }
+    }
+}
+
+#[test]
+fn words_of_a_listing_at_the_edges() {
+    for (file, exact) in [(whole_file(), 13), (sixty_four_chunks(), 257)] {
+        let fresh = listed(&file);
+        assert_eq!(fresh.len(), exact);
+        // Too few is no listing, and never 15.
+        for count in 0..exact {
+            assert_eq!(ffi::judge(&file, &fresh[..count]), 24, "{count} words");
+        }
+        assert_eq!(ffi::judge(&file, &fresh), 0);
+        for behind in [0, 1, u64::MAX] {
+            for more in [1, 2, 4, 244] {
+                let words = [&fresh[..], &vec![behind; more]].concat();
+                assert_eq!(ffi::judge(&file, &words), 0, "{more} words behind");
+            }
+        }
+    }
+}
+
+#[test]
+fn too_few_words_for_a_listing() {
+    for file in [whole_file(), float_file(), Vec::new()] {
+        for count in [0, 1, 13, 256] {
+            let mut words = vec![9; count];
+            assert_eq!(ffi::list(&file, &mut words), 15, "{count} words");
+            assert_eq!(words, vec![9; count]);
+        }
+        let (mut exact, mut more) = ([9; 257], [9; 300]);
+        assert_eq!(ffi::list(&file, &mut exact), ffi::list(&file, &mut more));
+        assert_eq!((&more[..257], &more[257..]), (&exact[..], &[9; 43][..]));
+    }
 }
 
 #[test]
@@ -936,10 +1169,10 @@ fn written_files_read_back_and_upgrade_to_the_written_form() {
 
 #[test]
 fn refusals_have_numbers_and_words() {
-    for (i, refusal) in Refusal::NAMED.iter().enumerate() {
-        assert_eq!(refusal.number() as usize, i + 1);
+    let numbers: Vec<u32> = Refusal::NAMED.iter().map(|refusal| refusal.number()).collect();
+    assert_eq!(numbers, (1..=19).chain([24]).collect::<Vec<_>>());
+    for refusal in Refusal::NAMED {
         assert!(!refusal.words().is_empty() && !refusal.advice().is_empty());
     }
-    assert_eq!(Refusal::NAMED.len(), 19);
     assert!(Refusal::Unfinished.advice().contains("the take was never finished"));
 }

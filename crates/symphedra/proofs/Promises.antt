@@ -61,7 +61,7 @@ use Rattle.wave.specs.Judgements.{judgement, FreshListing}
 use Rattle.wave.specs.Tables.{own_field}
 use Rattle.wave.specs.Demand3.{SaysOwn}
 use Rattle.wave.specs.Grammar.{GoodShape, GoodFile, ListsExactly, AcceptsExactly}
-use Rattle.wave.proofs.Tables.{list-tables, tables}
+use Rattle.wave.proofs.Tables.{list-tables}
 use Rattle.wave.proofs.Scanned.{scan-listed}
 use Rattle.wave.proofs.Judgements.{scan-listing}
 use Rattle.wave.proofs.Freshness.{fresh-says, decides}

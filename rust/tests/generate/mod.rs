@@ -1,5 +1,5 @@
 //! Generated files and records: well made, with slips against one rule or another, with damaged
-//! bytes, and plain noise.
+//! bytes, and plain noise. And what may be taken for the listing of a file.
 
 /// SplitMix64.
 #[derive(Clone)]
@@ -686,4 +686,89 @@ pub fn file(rng: &mut Rng) -> Vec<u8> {
             file
         }
     }
+}
+
+/// One byte changed, most often where a listing or the format hangs on it. `place` is that of a payload.
+pub fn touched(rng: &mut Rng, file: &[u8], place: usize) -> Vec<u8> {
+    let mut file = file.to_vec();
+    let at = match rng.below(4) {
+        0 => rng.below(60),
+        1 => place + rng.below(40),
+        _ => place - 8 + rng.below(8),
+    };
+    let at = at.min(file.len() - 1);
+    file[at] = if rng.once_in(2) { file[at] ^ 1 } else { file[at].wrapping_add(rng.byte() | 1) };
+    file
+}
+
+// ---- listings ----
+
+/// Words that mean nothing.
+pub fn any_words(rng: &mut Rng) -> Vec<u64> {
+    (0..rng.below(9)).map(|_| if rng.once_in(2) { rng.pick(&EDGES) } else { rng.next() }).collect()
+}
+
+/// Each of a row's words has a kind of its own.
+const FORGED: [&str; 4] = ["forged_name", "forged_place", "forged_size", "forged_source"];
+
+/// Other words in place of this one; the bits are those that 32 and 63 bits leave out.
+fn alterations(word: u64) -> impl Iterator<Item = u64> {
+    let others = [word.wrapping_add(1), word ^ (1 << 32), word ^ (1 << 63), 0, u64::MAX];
+    others.into_iter().filter(move |other| *other != word)
+}
+
+/// Every word of every row altered in turn, in each way.
+pub fn all_forged(fresh: &[u64]) -> Vec<(&'static str, Vec<u64>)> {
+    let mut all = Vec::new();
+    for at in 1..fresh.len() {
+        for other in alterations(fresh[at]) {
+            let mut words = fresh.to_vec();
+            words[at] = other;
+            all.push((FORGED[(at - 1) % 4], words));
+        }
+    }
+    all
+}
+
+/// Words made of a fresh listing, by kind: one with more behind it, or none any more.
+pub fn near_listing(rng: &mut Rng, fresh: &[u64]) -> (&'static str, Vec<u64>) {
+    let mut words = fresh.to_vec();
+    let rows = fresh.len() / 4;
+    let kind = match rng.below(8) {
+        0 => {
+            words.push(rng.next());
+            words.extend(any_words(rng));
+            "fresh_and_more"
+        }
+        1 => {
+            words.truncate(match rng.below(3) {
+                0 => rng.below(2),
+                1 => fresh.len() - 1,
+                _ => rng.below(fresh.len()),
+            });
+            "cut"
+        }
+        2 => {
+            let (a, b) = (rng.below(rows), 1 + rng.below(rows - 1));
+            let b = (a + b) % rows;
+            (0..4).for_each(|i| words.swap(1 + 4 * a + i, 1 + 4 * b + i));
+            "swapped"
+        }
+        3 => {
+            let count = fresh[0];
+            // Of the last two, 4 and 32 times the number is the right one in 64 bits.
+            let far = [65, (1 << 32) + count, u64::MAX, (1 << 62) + count, (1 << 59) + count];
+            let near = [count - 1, count + 1, count + 1, 0];
+            words[0] = if rng.once_in(2) { rng.pick(&near) } else { rng.pick(&far) };
+            words.extend(any_words(rng));
+            "forged_count"
+        }
+        _ => {
+            let at = 1 + rng.below(4 * rows);
+            let others: Vec<u64> = alterations(words[at]).collect();
+            words[at] = rng.pick(&others);
+            FORGED[(at - 1) % 4]
+        }
+    };
+    (kind, words)
 }

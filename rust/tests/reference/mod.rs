@@ -164,22 +164,22 @@ fn headers(
     (chunks, Ok(()))
 }
 
-pub struct Scan {
+pub struct Listing {
     pub form: Form,
     pub chunks: Vec<Chunk>,
     /// The entries of ds64, none in RIFF.
     pub entries: Vec<([u8; 4], u64)>,
     third: u64,
-    block: u64,
 }
 
-impl Scan {
+impl Listing {
     pub fn find(&self, name: &[u8; 4]) -> Option<Chunk> {
         self.chunks.iter().find(|chunk| chunk.name == *name).copied()
     }
 }
 
-pub fn scan(file: &[u8]) -> Refused<Scan> {
+/// "A listing, which ends after check 10."
+pub fn list(file: &[u8]) -> Refused<Listing> {
     if file.len() < 12 {
         return Err(1);
     }
@@ -217,23 +217,68 @@ pub fn scan(file: &[u8]) -> Refused<Scan> {
     if fact.iter().any(|i| chunks[*i].size < 4) {
         return Err(10);
     }
-    let record = read_fmt(chunks[fmt[0]].payload(file))?;
-    let block = record[5];
-    if chunks[data[0]].size % block != 0 {
-        return Err(12);
-    }
     let (third, entries) = ds64.map_or((0, Vec::new()), |ds64| (ds64.third, ds64.entries));
-    Ok(Scan { form, chunks, entries, third, block })
+    Ok(Listing { form, chunks, entries, third })
 }
 
-pub fn sample_count(file: &[u8]) -> Refused<Option<u64>> {
-    let scan = scan(file)?;
-    let Some(fact) = scan.find(b"fact") else { return Ok(None) };
-    let count = le(&fact.payload(file)[..4]);
-    if scan.form == Form::Rf64 && count == ALL_ONES {
-        return Ok(Some(scan.third));
+/// A table's words up to its last chunk.
+pub fn table(chunks: &[Chunk]) -> Vec<u64> {
+    let mut words = Vec::with_capacity(1 + 4 * chunks.len());
+    words.push(chunks.len() as u64);
+    for chunk in chunks {
+        let name = u32::from_le_bytes(chunk.name);
+        words.extend([name.into(), chunk.place as u64, chunk.size, chunk.mark.word()]);
     }
-    Ok(Some(count))
+    words
+}
+
+/// The table that stands at the front of these words, or `None` where they hold none: it would have more
+/// than 64 rows, or more than there are words for.
+fn table_in(words: &[u64]) -> Option<&[u64]> {
+    let rows = *words.first()?;
+    if rows > 64 {
+        return None;
+    }
+    words.get(..1 + 4 * rows as usize)
+}
+
+/// "A judgement of fmt and block size over a listing and its file": the block size. The listing is the
+/// table in `words`; `fresh` is what `list` gives of the file, `None` where it refuses.
+pub fn judge(file: &[u8], fresh: Option<&Listing>, words: &[u64]) -> Refused<u64> {
+    // "24, first in the judgement, for a listing that isn't a fresh listing of the given file, and also
+    // where the file has no listing."
+    let fresh = fresh.ok_or(24u32)?;
+    if table_in(words) != Some(&table(&fresh.chunks)) {
+        return Err(24);
+    }
+    let (fmt, data) = (fresh.find(b"fmt ").unwrap(), fresh.find(b"data").unwrap());
+    let [_, _, _, _, _, block, ..] = read_fmt(fmt.payload(file))?;
+    if data.size % block != 0 {
+        return Err(12);
+    }
+    Ok(block)
+}
+
+/// An accepted file.
+pub struct Scan<'a> {
+    pub listing: &'a Listing,
+    block: u64,
+}
+
+/// The listing, which `list` gave of the file, and the judgement in turn.
+pub fn scan<'a>(file: &[u8], listing: &'a Refused<Listing>) -> Refused<Scan<'a>> {
+    let listing = listing.as_ref().map_err(|number| *number)?;
+    let block = judge(file, Some(listing), &table(&listing.chunks))?;
+    Ok(Scan { listing, block })
+}
+
+/// What an accepted file states, `None` without fact.
+pub fn sample_count(file: &[u8], scan: &Scan) -> Option<u64> {
+    let count = le(&scan.listing.find(b"fact")?.payload(file)[..4]);
+    if scan.listing.form == Form::Rf64 && count == ALL_ONES {
+        return Some(scan.listing.third);
+    }
+    Some(count)
 }
 
 // ---- fmt, bext, chna ----
@@ -475,18 +520,18 @@ pub fn walk32(file: &[u8]) -> (Vec<Chunk>, u32) {
 
 // ---- Writing and upgrading ----
 
-/// The upgraded file.
-pub fn upgrade(file: &[u8], target: Form) -> Refused<Vec<u8>> {
-    let scan = scan(file)?;
-    if scan.form != Form::Riff {
+/// An accepted file upgraded.
+pub fn upgrade(file: &[u8], scan: &Scan, target: Form) -> Refused<Vec<u8>> {
+    let listing = scan.listing;
+    if listing.form != Form::Riff {
         return Err(18);
     }
-    let first = scan.chunks[0];
+    let first = listing.chunks[0];
     if first.name != *b"JUNK" || first.size < 28 {
         return Err(19);
     }
-    let data = scan.find(b"data").unwrap();
-    let fact = scan.find(b"fact");
+    let data = listing.find(b"data").unwrap();
+    let fact = listing.find(b"fact");
     let mut new = file.to_vec();
     let mut set = |at: usize, bytes: &[u8]| new[at..at + bytes.len()].copy_from_slice(bytes);
     set(0, &target.name());

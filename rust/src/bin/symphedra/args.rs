@@ -8,6 +8,8 @@ use symphedra::{Form, Target};
 #[derive(Debug, Clone, Copy, PartialEq, Eq)]
 pub enum Question {
     Scan,
+    List,
+    Judge,
     Walk,
     Samples,
     Info,
@@ -35,7 +37,7 @@ const AFTER_HELP: &str = "\
 Exit status: 0 all good; 1 some file was refused; 2 bad usage, or a file that can't be opened, \
 read, mapped or written.";
 
-const SCAN_HELP: &str = "\
+const TABLE_HELP: &str = "\
 Where some size isn't the chunk's own, a column says where each came from:
   own      the chunk's own size field
   ds64     the data size of ds64
@@ -64,13 +66,21 @@ fn command() -> Command {
     };
     Command::new("symphedra")
         .version(env!("CARGO_PKG_VERSION"))
-        .about("RIFF, RF64 and BW64 recordings: scan, walk, upgrade and write")
+        .about("RIFF, RF64 and BW64 recordings: scan, list, judge, walk, upgrade and write")
         .after_help(AFTER_HELP)
         .subcommand_required(true)
         .arg_required_else_help(true)
         .subcommand(
-            question("scan", "The table of each file, or its refusal").after_help(SCAN_HELP),
+            question("scan", "The table of each file, or its refusal").after_help(TABLE_HELP),
         )
+        .subcommand(
+            question("list", "The table of each file whatever its format, or its refusal")
+                .after_help(TABLE_HELP),
+        )
+        .subcommand(question(
+            "judge",
+            "Whether each file's format is good and its audio whole blocks",
+        ))
         .subcommand(question("walk", "What the plain 32-bit walk shows, and where it stops"))
         .subcommand(question("samples", "The sample count that each file states"))
         .subcommand(question("info", "Form, format, bext and chna records, duration"))
@@ -102,6 +112,8 @@ pub fn parse() -> Action {
     let matches = command().get_matches();
     match matches.subcommand() {
         Some(("scan", m)) => ask(Question::Scan, m),
+        Some(("list", m)) => ask(Question::List, m),
+        Some(("judge", m)) => ask(Question::Judge, m),
         Some(("walk", m)) => ask(Question::Walk, m),
         Some(("samples", m)) => ask(Question::Samples, m),
         Some(("info", m)) => ask(Question::Info, m),

@@ -88,10 +88,11 @@ pub fn line(out: &mut impl Write, report: &Report, path: &Path) -> io::Result<()
     let refusal = ("refusal", number_of(report.refusal()));
     let mut keys = vec![("file", Json::Text(path.to_string_lossy().into_owned()))];
     match report {
-        Report::Scan(Ok((form, found))) => {
+        Report::Table(Ok((form, found))) => {
             keys.extend([("form", Json::Text(form.to_string())), refusal, chunks(found)]);
         }
-        Report::Scan(Err(_)) => keys.extend([("form", Json::Null), refusal, chunks(&[])]),
+        Report::Table(Err(_)) => keys.extend([("form", Json::Null), refusal, chunks(&[])]),
+        Report::Judge(_) => keys.push(refusal),
         Report::Walk { chunks: found, .. } => keys.extend([refusal, chunks(found)]),
         Report::Samples(answer) => {
             let samples = Json::optional(answer.ok().flatten(), Json::Number);

@@ -109,7 +109,16 @@ fn say(message: &str) {
 fn refused(path: &Path, refusal: Refusal) {
     let style = Style::stderr();
     let (path, words) = (show::path(path), style.bad(&refusal.to_string()));
-    say(&format!("{path}: {words}\n  {}", refusal.advice()));
+    let mut message = format!("{path}: {words}\n  {}", refusal.advice());
+    if let Some(more) = what_list_shows(refusal) {
+        message += &format!("\n  {more}");
+    }
+    say(&message);
+}
+
+/// The refusal about which the listing tells more.
+fn what_list_shows(refusal: Refusal) -> Option<&'static str> {
+    (refusal == Refusal::StaleListing).then_some("`symphedra list FILE` says why it has none")
 }
 
 fn failed(path: &Path, trouble: &Trouble) -> Outcome {

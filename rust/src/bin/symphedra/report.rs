@@ -1,10 +1,11 @@
 //! What the library answers about one file, ready to be shown in words or as JSON.
 
 use crate::args::Question;
-use symphedra::{Chunk, Form, Refusal};
+use symphedra::{Chunk, Form, Refusal, Table};
 
 pub enum Report {
-    Scan(Result<(Form, Vec<Chunk>), Refusal>),
+    Table(Result<(Form, Vec<Chunk>), Refusal>),
+    Judge(Result<(), Refusal>),
     Walk { chunks: Vec<Chunk>, stop: Option<Refusal>, at: u64 },
     Samples(Result<Option<u64>, Refusal>),
     Info(Result<Box<Info>, Refusal>),
@@ -49,10 +50,14 @@ pub struct ChnaEntry {
 impl Report {
     pub fn new(question: Question, file: &[u8]) -> Self {
         match question {
-            Question::Scan => Report::Scan(symphedra::scan(file).and_then(|table| {
-                let form = Form::of(file).ok_or(Refusal::NotWave)?;
-                Ok((form, table.iter().collect()))
-            })),
+            Question::Scan => Report::table(file, symphedra::scan(file)),
+            Question::List => Report::table(file, symphedra::list(file)),
+            Question::Judge => {
+                // A file without listing is judged over no words, which gives it its refusal.
+                let listing = symphedra::list(file);
+                let words = listing.as_ref().map_or(&[][..], Table::words);
+                Report::Judge(symphedra::judge_words(file, words))
+            }
             Question::Walk => {
                 let walk = symphedra::walk32(file);
                 let chunks: Vec<Chunk> = walk.table.iter().collect();
@@ -64,10 +69,18 @@ impl Report {
         }
     }
 
+    fn table(file: &[u8], answer: Result<Table, Refusal>) -> Self {
+        Report::Table(answer.and_then(|table| {
+            let form = Form::of(file).ok_or(Refusal::NotWave)?;
+            Ok((form, table.iter().collect()))
+        }))
+    }
+
     /// The refusal of the file, or of the first of its records that is refused.
     pub fn refusal(&self) -> Option<Refusal> {
         match self {
-            Report::Scan(answer) => answer.as_ref().err().copied(),
+            Report::Table(answer) => answer.as_ref().err().copied(),
+            Report::Judge(answer) => answer.err(),
             Report::Walk { stop, .. } => *stop,
             Report::Samples(answer) => answer.err(),
             Report::Info(Err(refusal)) => Some(*refusal),

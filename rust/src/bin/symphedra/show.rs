@@ -69,7 +69,7 @@ pub fn report(
 ) -> io::Result<()> {
     let title = style.title(&path(file));
     match report {
-        Report::Scan(Ok((form, chunks))) => {
+        Report::Table(Ok((form, chunks))) => {
             let count = plural(chunks.len() as u64, "chunk");
             writeln!(out, "{title}: {form}, {}, {count}", plural(length, "byte"))?;
             table(out, style, chunks, length)
@@ -88,13 +88,19 @@ pub fn report(
                 }
             }
         }
+        Report::Judge(Ok(())) => {
+            writeln!(out, "{title}: the format is good, and the audio is whole blocks")
+        }
         Report::Samples(Ok(Some(count))) => writeln!(out, "{title}: {}", plural(*count, "sample")),
         Report::Samples(Ok(None)) => writeln!(out, "{title}: none stated (no fact chunk)"),
         Report::Info(Ok(info)) => {
             writeln!(out, "{title}")?;
             records(out, style, info)
         }
-        Report::Scan(Err(_)) | Report::Samples(Err(_)) | Report::Info(Err(_)) => Ok(()),
+        Report::Table(Err(_))
+        | Report::Judge(Err(_))
+        | Report::Samples(Err(_))
+        | Report::Info(Err(_)) => Ok(()),
     }
 }
 
