@@ -23,7 +23,7 @@ bounds-file-i c =
 
 pub returns-then-letter-le102 : goal.returns-then-letter-le102
 returns-then-letter-le102 c =
-    sym (passed-stay _ _ _ _ (pass-letter _ _ _ c.if-letter-ge98.true c.if-letter-le102.true))
+    sym (passed-stay _ _ _ _ (pass-letter _ _ _ (omega (arith, c.if-letter-ge98.true)) (omega (arith, c.if-letter-le102.true))))
     ∙ c.loop-room.invariant.1
 
 pub overflow_sub-i : goal.overflow_sub-i
