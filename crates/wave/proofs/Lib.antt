@@ -8,4 +8,5 @@ pub mod GoodFiles
 pub mod Judgements
 pub mod Scanned
 pub mod Stored
+pub mod Surveys
 pub mod Tables

@@ -18,8 +18,13 @@ use Rattle.listing.specs.declared.Listing as code
 use Rattle.wave.specs.declared.judgement.Accepted.{Accepted}
 use Rattle.wave.specs.declared.judgement.Examined.{Examined}
 use Rattle.wave.specs.declared.judgement.Examined.TheVariants as examined
-use Rattle.listing.specs.Listings.{headers}
-use Rattle.listing.specs.Code.{payload_of, rule, fact_in}
+use Rattle.wave.specs.declared.judgement.Found.{Found}
+use Rattle.wave.specs.declared.judgement.Judging.{Judging}
+use Rattle.wave.specs.declared.judgement.Judging.TheVariants as judging
+use Rattle.wave.specs.declared.judgement.Surveyed.{Surveyed}
+use Rattle.wave.specs.declared.judgement.Surveyed.TheVariants as surveyed
+use Rattle.listing.specs.Listings.{Listing, headers}
+use Rattle.listing.specs.Code.{payload_of, rule, fact_in, kept_of}
 use Rattle.wave.specs.Scans.{Scan, judged}
 
 -- ---- the judgement
@@ -48,6 +53,23 @@ accepted_of s a =
       count = length a.rows;
       format = a.format;
     }
+
+-- what checks 11 and 12 say of a listed file
+unfoldable pub judging_as : Answer Format → Judging
+judging_as (refused r) = judging.Bad r
+judging_as (given f) = judging.Good f
+
+unfoldable pub judging_of : code.Listing → List ℕ → Judging
+judging_of l s = judging_as (judged (field l.fmt.size l.fmt.place s) l.audio.size)
+
+-- what is kept of a listing, but for its fmt
+unfoldable pub found_of : code.Listing → Found
+found_of l = record { head = l.head; first = l.first; audio = l.audio; fact = l.fact; count = l.count }
+
+-- what checks 1 to 10 say of a file, and of a listed one what 11 and 12 say
+unfoldable pub surveyed_as : List ℕ → Answer Listing → Surveyed
+surveyed_as s (refused r) = surveyed.Refused r
+surveyed_as s (given l) = surveyed.Listed (found_of (kept_of s l)) (judging_of (kept_of s l) s)
 
 unfoldable pub examined_as : List ℕ → Answer Scan → Examined
 examined_as s (refused r) = examined.Refused r

@@ -13,8 +13,7 @@ ghost use Rattle.wave.specs.Judgements.{judgement};
 ghost use Rattle.wave.specs.Words.{ScanDone, ListDone, WalkDone, scan_table, list_table, walk_table};
 
 use chunk::{Refusal, Table, Verdict};
-use judgement::Examined;
-use listing::Listed;
+use judgement::{Examined, Judging, Surveyed};
 
 // A table, and how the operation that made it ended.
 #[derive(Drop)]
@@ -57,20 +56,20 @@ pub fn scan(file: &[u8]) -> Tabled
     }
 }
 
-// Lists a file into the words of a table: checks 1 to 10, and none of fmt. Words past the last chunk stay as they were, and
-// all of them where there are fewer than a table has: that is 15, ahead of everything else.
+// Lists a file into the words of a table: checks 1 to 10, whatever the survey says of fmt. Words past the last chunk stay as
+// they were, and all of them where there are fewer than a table has: that is 15, ahead of everything else.
 pub fn list_into(file: &[u8], words: &mut [u64]) -> Verdict
     ensures { ListDone file.now words.old result words.new }
 {
     if words.len() < Table::WORDS {
         return Verdict::Refused(Refusal::ShortOutput);
     }
-    match listing::list(file) {
-        Listed::Refused(r) => {
+    match judgement::survey(file) {
+        Surveyed::Refused(r) => {
             words[0] = 0;
             Verdict::Refused(r)
         }
-        Listed::Listing(l) => {
+        Surveyed::Listed(l, _) => {
             rows::fill(file, l.head, l.count, words);
             Verdict::Accepted
         }
@@ -95,15 +94,15 @@ pub fn list(file: &[u8]) -> Tabled
 pub fn judge(file: &[u8], table: &[u64]) -> Verdict
     ensures { result ≡ verdict_of (judgement file.now table.now) }
 {
-    match listing::list(file) {
-        Listed::Refused(_) => Verdict::Refused(Refusal::StaleListing),
-        Listed::Listing(l) => {
+    match judgement::survey(file) {
+        Surveyed::Refused(_) => Verdict::Refused(Refusal::StaleListing),
+        Surveyed::Listed(l, said) => {
             if !rows::are(file, l.head, l.count, table) {
                 return Verdict::Refused(Refusal::StaleListing);
             }
-            match judgement::judge_fresh(file, l) {
-                Examined::Refused(r) => Verdict::Refused(r),
-                Examined::Accepted(_) => Verdict::Accepted,
+            match said {
+                Judging::Bad(r) => Verdict::Refused(r),
+                Judging::Good(_) => Verdict::Accepted,
             }
         }
     }
