@@ -1,8 +1,10 @@
-// Runs the scan, the 32-bit walk, the sample count and the upgrade on the files that its input describes.
+// Runs the scan, the listing and its judgement, the 32-bit walk, the sample count and the upgrade on the files that its input
+// describes.
 //
-// The input is a script (the crate script says how a file is put together). n$ asks the four of the first n bytes and
-// upgrades them to RF64, n% to BW64; ? prints the form and ds64, n' the 4 bytes at n.
-// What is expected stands in the file stdout, worked out from document 01.
+// The input is a script (the crate script says how a file is put together). n$ asks the first n bytes for the scan, the walk
+// and the count, and upgrades them to RF64, n% to BW64; ? prints the form and ds64, n' the 4 bytes at n. n# lists the first n
+// bytes and has that listing judged: as it is, altered, and cut; n~ has them judged by the listing of the kept file.
+// What is expected stands in the file stdout, worked out from the documents.
 #![tactic(auto)]
 
 ghost use Rattle.std.specs.Prelude.{◌+◌, ◌≤◌, length};
@@ -124,6 +126,87 @@ fn all(rt: &impl Print, whole: &mut [u8], n: usize, target: Target) -> io::Resul
     text(rt, b"\n")
 }
 
+// Another number.
+fn other(n: u64) -> u64 {
+    if n == 0 { 1 } else { n - 1 }
+}
+
+// One more than the words of a listing of up to eight rows.
+fn span(words: &[u64]) -> usize {
+    if words.len() == 0 {
+        return 0;
+    }
+    let count = words[0];
+    if 8 < count {
+        34
+    } else {
+        2 + 4 * count as usize
+    }
+}
+
+// The judgement by these words with each in turn another.
+fn altered(rt: &impl Print, file: &[u8], words: &mut [u64], stop: usize) -> io::Result<()> {
+    let mut i: usize = 0;
+    while i < stop {
+        if i < words.len() {
+            let word = words[i];
+            words[i] = other(word);
+            verdict(rt, wave::judge(file, words))?;
+            words[i] = word;
+        }
+        i += 1;
+    }
+    Ok(())
+}
+
+// The judgement by the first of these words, none of them to one less than that.
+fn cut(rt: &impl Print, file: &[u8], words: &[u64], stop: usize) -> io::Result<()> {
+    let mut i: usize = 0;
+    while i < stop {
+        if i <= words.len() {
+            verdict(rt, wave::judge(file, &words[..i]))?;
+        }
+        i += 1;
+    }
+    Ok(())
+}
+
+// A line: the listing of the first n bytes and its judgement; with each word another, up to the one past the last row; and
+// with none of the words, one, and so on up to the last row.
+fn triage(rt: &impl Print, whole: &[u8], n: usize) -> io::Result<()> {
+    if whole.len() < n {
+        return Ok(());
+    }
+    let file = &whole[..n];
+    let t = wave::list(file);
+    let v = t.verdict;
+    let mut words = t.table.words;
+    let stop = span(&words);
+    walked(rt, b": list", v, &words)?;
+    text(rt, b"; judge")?;
+    verdict(rt, wave::judge(file, &words))?;
+    text(rt, b"; altered")?;
+    altered(rt, file, &mut words, stop)?;
+    text(rt, b"; cut")?;
+    cut(rt, file, &words, stop)?;
+    text(rt, b"\n")
+}
+
+// A line: what judges the first n bytes by the listing of the first n that were kept.
+fn stale(rt: &impl Print, whole: &[u8], kept: &[u8], n: usize) -> io::Result<()> {
+    if whole.len() < n {
+        return Ok(());
+    }
+    if kept.len() < n {
+        return Ok(());
+    }
+    let t = wave::list(&kept[..n]);
+    let words = t.table.words;
+    text(rt, b": judge by the kept listing")?;
+    verdict(rt, wave::judge(&whole[..n], &words))?;
+    text(rt, b"\n")
+}
+
 // The numbers of ds64.
 fn numbers(rt: &impl Print, file: &[u8]) -> io::Result<()> {
     if file.len() < 48 {
@@ -171,10 +254,12 @@ fn field(rt: &impl Print, file: &[u8], at: usize) -> io::Result<()> {
 }
 
 // A command that is none of the script's, after the number n.
-fn command(rt: &impl Print, b: u8, n: usize, file: &mut [u8]) -> io::Result<()> {
+fn command(rt: &impl Print, b: u8, n: usize, file: &mut [u8], kept: &[u8]) -> io::Result<()> {
     match b {
         b'$' => all(rt, file, n, Target::Rf64),
         b'%' => all(rt, file, n, Target::Bw64),
+        b'#' => triage(rt, file, n),
+        b'~' => stale(rt, file, kept, n),
         b'?' => head(rt, file),
         b'\'' => field(rt, file, n),
         _ => Ok(()),
@@ -182,10 +267,10 @@ fn command(rt: &impl Print, b: u8, n: usize, file: &mut [u8]) -> io::Result<()> 
 }
 
 // What a script leaves to the program at a character.
-fn act(rt: &impl Print, sign: Sign, b: u8, n: u64, file: &mut [u8]) -> io::Result<()> {
+fn act(rt: &impl Print, sign: Sign, b: u8, n: u64, file: &mut [u8], kept: &[u8]) -> io::Result<()> {
     match sign {
         Sign::Print => text(rt, &[b]),
-        Sign::Own => command(rt, b, n as usize, file),
+        Sign::Own => command(rt, b, n as usize, file, kept),
         _ => Ok(()),
     }
 }
@@ -201,7 +286,7 @@ fn run(rt: &impl Print, input: &[u8]) -> io::Result<()> {
     while i < input.len() {
         let b = input[i];
         let sign = s.sign(b);
-        act(rt, sign, b, s.n, &mut file)?;
+        act(rt, sign, b, s.n, &mut file, &kept)?;
         s = s.after(sign, &mut file, &mut kept);
         i += 1;
     }
