@@ -511,6 +511,7 @@ promise-2 =
       stale = stale;
       fresh = fresh-says;
       judges = λ s w r j. (judges s w r j).0;
+      as_scan = λ s w r f j. j ∙ ap verdict_number ((decides s w).fresh f);
       in_place = λ a out w out' w' h. let k = wrote-out a out w out' w' h in record { fits = k.fits; rest = k.output };
       fmt_back = fmt_back;
       bext_back = bext_back;

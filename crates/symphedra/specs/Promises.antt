@@ -10,7 +10,7 @@ use Rattle.std.proofs.lemmas.List.Edits.{sets}
 use Rattle.le.specs.Number.{Bytes}
 use Rattle.chunk.specs.declared.Entry.{Entry}
 use Rattle.chunk.specs.declared.Refusal.{Refusal}
-use Rattle.chunk.specs.Refusals.{refusal_number, Answer, given}
+use Rattle.chunk.specs.Refusals.{refusal_number, Answer, given, verdict_number, verdict_of}
 use Rattle.chunk.specs.Names.{DATA}
 use Rattle.chunk.specs.Fields.{ONES}
 use Rattle.chunk.specs.Tables.{tabled, row_in, WORDS}
@@ -124,6 +124,7 @@ pub record Promise2 : Type 0 where
   pub stale : (s w : List ℕ) (r : ℕ) → Judges s w r → (r ≡ 24) ↔ (FreshListing s w → ⊥)
   pub fresh : (s w : List ℕ) → FreshListing s w → FreshSays s w
   pub judges : (s w : List ℕ) (r : ℕ) → Judges s w r → (r ≡ 0) ⊎ (r ≡ 24) ⊎ (r ≡ 11) ⊎ (r ≡ 12)
+  pub as_scan : (s w : List ℕ) (r : ℕ) → FreshListing s w → Judges s w r → r ≡ verdict_number (verdict_of (scan s))
   -- "What we write reads back as the records .. we gave." Every writer:
   pub in_place : (a : Answer (List ℕ)) (out w out' w' : List ℕ) → WritesOut a out w 0 out' w' → InPlace out out' w'
   -- fmt: the nine words that were given
