@@ -7,7 +7,7 @@
 // What is expected stands in the file stdout, worked out from the documents.
 #![tactic(auto)]
 
-ghost use Rattle.std.specs.Prelude.{◌+◌, ◌≤◌, length};
+ghost use Rattle.std.specs.Prelude.{◌+◌, ◌≤◌, length, IfOk};
 
 use chunk::Verdict;
 use samples::Samples;
@@ -276,7 +276,7 @@ fn act(rt: &impl Print, sign: Sign, b: u8, n: u64, file: &mut [u8], kept: &[u8])
 }
 
 // The most bytes of input that are read.
-const INPUT: u64 = 65_536;
+const INPUT: usize = 65_536;
 
 fn run(rt: &impl Print, input: &[u8]) -> io::Result<()> {
     let mut file = [0u8; 1024];
@@ -293,8 +293,23 @@ fn run(rt: &impl Print, input: &[u8]) -> io::Result<()> {
     Ok(())
 }
 
+// Reads until buf is full or the input ends, and answers how many bytes were read.
+fn read_full<R: Read>(reader: &mut R, buf: &mut [u8]) -> io::Result<usize>
+    ensures { IfOk result (λ n. n ≤ length buf.new) }
+{
+    let mut n = 0;
+    while n < buf.len() {
+        let got = reader.read(&mut buf[n..])?;
+        if got == 0 {
+            return Ok(n);
+        }
+        n += got;
+    }
+    Ok(n)
+}
+
 fn main(rt: HostRuntime) -> io::Result<()> {
-    let mut input = Vec::new(rt.alloc());
-    rt.reader().take(INPUT).read_to_end(&mut input)?;
-    run(&rt, &input)
+    let mut buf = [0u8; INPUT];
+    let n = read_full(&mut rt.reader(), &mut buf)?;
+    run(&rt, &buf[..n])
 }
