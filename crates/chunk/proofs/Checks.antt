@@ -8,17 +8,17 @@ use Prim.Native.Nat.{ℕ}
 use native.Mathlib.Omega.{arith}
 use Rattle.le.specs.Choice.{pick}
 use Rattle.chunk.specs.declared.Refusal.{Refusal}
-use Rattle.chunk.specs.Refusals.{Answer, refused, given, check, and_then}
+use Rattle.chunk.specs.Refusals.{Answer, Err, Ok, check, and_then}
 
 -- ---- answers
 
-pub given-inj : {A : Type 0} (a b : A) → given a ≡ given b → a ≡ b
+pub given-inj : {A : Type 0} (a b : A) → ◌≡◌ {A = Answer A} (Ok a) (Ok b) → a ≡ b
 given-inj a b e = cc
 
-pub refused-inj : {A : Type 0} (r q : Refusal) → ◌≡◌ {A = Answer A} (refused r) (refused q) → r ≡ q
+pub refused-inj : {A : Type 0} (r q : Refusal) → ◌≡◌ {A = Answer A} (Err r) (Err q) → r ≡ q
 refused-inj r q e = cc
 
-pub refused-given : {A : Type 0} (r : Refusal) (a : A) → ◌≡◌ {A = Answer A} (refused r) (given a) → ⊥
+pub refused-given : {A : Type 0} (r : Refusal) (a : A) → ◌≡◌ {A = Answer A} (Err r) (Ok a) → ⊥
 refused-given r a e = let z : ◌≡◌ {A = ℕ} 0 1 = cc in omega arith
 
 -- ---- a choice
@@ -43,7 +43,7 @@ true-false b p q = let z : ◌≡◌ {A = ℕ} 0 1 = cc in omega arith
 -- ---- a check
 
 pub check-given : {A : Type 0} (b : Bool) (r : Refusal) (k : Answer A) (a : A)
-    → check b r k ≡ given a → (b ≡ true) × (k ≡ given a)
+    → check b r k ≡ Ok a → (b ≡ true) × (k ≡ Ok a)
 unfolding check
 check-given true r k a e = (refl, e)
 check-given false r k a e = absurd (refused-given r a e)
@@ -52,13 +52,13 @@ pub check-true : {A : Type 0} (b : Bool) (r : Refusal) (k : Answer A) → b ≡ 
 unfolding check
 check-true b r k e = rw e
 
-pub check-false : {A : Type 0} (b : Bool) (r : Refusal) (k : Answer A) → b ≡ false → check b r k ≡ refused r
+pub check-false : {A : Type 0} (b : Bool) (r : Refusal) (k : Answer A) → b ≡ false → check b r k ≡ Err r
 unfolding check
 check-false b r k e = rw e
 
 -- a refusal is its own, or that of what follows
-pub check-refused : {A : Type 0} (b : Bool) (r : Refusal) (k : Answer A) (q : Refusal) → check b r k ≡ refused q
-    → (q ≡ r) ⊎ (k ≡ refused q)
+pub check-refused : {A : Type 0} (b : Bool) (r : Refusal) (k : Answer A) (q : Refusal) → check b r k ≡ Err q
+    → (q ≡ r) ⊎ (k ≡ Err q)
 unfolding check
 check-refused true r k q e = inr e
 check-refused false r k q e = inl (sym (refused-inj r q e))
@@ -66,16 +66,16 @@ check-refused false r k q e = inl (sym (refused-inj r q e))
 -- ---- then
 
 pub and_then-given : {A B : Type 0} (x : Answer A) (k : A → Answer B) (b : B)
-    → and_then x k ≡ given b → (a : A) × (x ≡ given a) × (k a ≡ given b)
+    → and_then x k ≡ Ok b → (a : A) × (x ≡ Ok a) × (k a ≡ Ok b)
 unfolding and_then
-and_then-given (refused r) k b e = absurd (refused-given r b e)
-and_then-given (given a) k b e = (a, refl, e)
+and_then-given (Err r) k b e = absurd (refused-given r b e)
+and_then-given (Ok a) k b e = (a, refl, e)
 
-pub and_then-at : {A B : Type 0} (x : Answer A) (k : A → Answer B) (a : A) → x ≡ given a → and_then x k ≡ k a
+pub and_then-at : {A B : Type 0} (x : Answer A) (k : A → Answer B) (a : A) → x ≡ Ok a → and_then x k ≡ k a
 unfolding and_then
 and_then-at x k a e = rw e
 
-pub and_then-refused : {A B : Type 0} (x : Answer A) (k : A → Answer B) (r : Refusal) → x ≡ refused r → and_then x k ≡ refused r
+pub and_then-refused : {A B : Type 0} (x : Answer A) (k : A → Answer B) (r : Refusal) → x ≡ Err r → and_then x k ≡ Err r
 unfolding and_then
 and_then-refused x k r e = rw e
 

@@ -6,7 +6,7 @@ use mathlib.Core.Path.{◌≡◌, refl, sym, ◌∙◌, ap, subst}
 use mathlib.Core.Bool.{Bool, true, false}
 use mathlib.Core.Logic.{◌⊎◌, inl, inr}
 use mathlib.Core.List.Memᴰ
-use mathlib.Core.List.{List, [], ◌∷◌, map, map-id, Memᴰ}
+use mathlib.Core.List.{List, [], ◌∷◌, map, Memᴰ}
 use Prim.Native.Nat.{ℕ, zero, suc, ◌+◌, ◌-◌, ◌%◌, ◌≤◌}
 use native.Mathlib.Omega.{arith}
 use lib.ListN.{length}
@@ -18,9 +18,7 @@ use Rattle.chunk.specs.declared.Source.{Source}
 use Rattle.chunk.specs.declared.TrueSize.{TrueSize}
 use Rattle.chunk.specs.declared.Refusal.{Refusal}
 use Rattle.chunk.specs.declared.Refusal.TheVariants.{CutHeader, TooMany, UnknownSize, PastEnd}
-use Rattle.chunk.specs.declared.Verdict.{Verdict}
-use Rattle.chunk.specs.declared.Verdict.TheVariants.{Accepted, Refused}
-use Rattle.chunk.specs.Refusals.{Answer, refused, given}
+use Rattle.chunk.specs.Refusals.{Answer, Verdict, Err, Ok}
 use Rattle.chunk.proofs.Checks.{picked, given-inj, refused-given, pick_true, pick-false}
 use Rattle.chunk.specs.Fields.{ONES}
 use Rattle.chunk.specs.Walks.{Turn, Chunk, Stop, Rule, entry_of, past, placed, sized, step, step_at, Walked, follow, walk, field_size, own_size}
@@ -33,7 +31,7 @@ row-size e = record { bytes = e.size; source = e.source }
 pub record Row (rule : Rule) (s : List ℕ) (at : ℕ) (e : Entry) : Type 0 where
   pub place : e.place ≡ at + 8
   pub named : number 4 at s ≡ e.name
-  pub sized : rule at e.name (number 4 (at + 4) s) ≡ given (row-size e)
+  pub sized : rule at e.name (number 4 (at + 4) s) ≡ Ok (row-size e)
   pub ends : past e ≤ length s
 
 -- the rows from an offset to the end of the file
@@ -65,9 +63,9 @@ past-aligned e h = omega arith
 
 -- what a step finds
 pub data Found (rule : Rule) (s : List ℕ) (room at : ℕ) : Turn → Type 0 where
-  ended : at ≡ length s → Found rule s room at (Stop Accepted)
+  ended : at ≡ length s → Found rule s room at (Stop (Ok tt))
   chunk : {e : Entry} → 1 ≤ room → Row rule s at e → Found rule s room at (Chunk e (past e))
-  refusal : (r : Refusal) → Found rule s room at (Stop (Refused r))
+  refusal : (r : Refusal) → Found rule s room at (Stop (Err r))
 
 pub step-found : (rule : Rule) (s : List ℕ) (room at : ℕ) → Found rule s room at (step_at rule s room at)
 unfolding step_at step sized placed
@@ -85,13 +83,13 @@ step-found rule s room at =
 
     size : 1 ≤ room → (x : Answer TrueSize) → rule at (number 4 at s) (number 4 (at + 4) s) ≡ x
         → Found rule s room at (sized (length s) at (number 4 at s) x)
-    size r (refused x) e = refusal x
-    size r (given t) e =
+    size r (Err x) e = refusal x
+    size r (Ok t) e =
         picked F (leb (past (entry_of (at + 8) (number 4 at s) t)) (length s)) _ _
         (λ h. chunk r (record { place = refl; named = refl; sized = e; ends = leb-true _ _ h }))
         (λ _. refusal PastEnd)
 
-pub step_end : (rule : Rule) (s : List ℕ) (room at : ℕ) → at ≡ length s → step_at rule s room at ≡ Stop Accepted
+pub step_end : (rule : Rule) (s : List ℕ) (room at : ℕ) → at ≡ length s → step_at rule s room at ≡ Stop (Ok tt)
 unfolding step_at step
 step_end rule s room at h = rw (eq-eqb at (length s) h)
 
@@ -117,7 +115,7 @@ step_row {rule} {s} {at} {e} room r =
 
 -- a header whose size the rule refuses stops the walk
 pub step-refused : (rule : Rule) (s : List ℕ) (room at : ℕ) (r : Refusal) → at + 8 ≤ length s
-    → rule at (number 4 at s) (number 4 (at + 4) s) ≡ refused r → step_at rule s (suc room) at ≡ Stop (Refused r)
+    → rule at (number 4 at s) (number 4 (at + 4) s) ≡ Err r → step_at rule s (suc room) at ≡ Stop (Err r)
 unfolding sized
 step-refused rule s room at r h k = step-sized rule s room at h ∙ ap (sized (length s) at (number 4 at s)) k
 
@@ -140,14 +138,14 @@ pub record Ends (rule : Rule) (s : List ℕ) (room at : ℕ) (rows : List Entry)
   pub few : length rows ≤ room
 
 pub walk-laid : (rule : Rule) (s : List ℕ) (room at : ℕ)
-    → (walk rule s room at).end ≡ Accepted → Ends rule s room at (walk rule s room at).rows
+    → (walk rule s room at).end ≡ (Ok tt) → Ends rule s room at (walk rule s room at).rows
 unfolding walk follow
 walk-laid rule s zero at h = go (step-found rule s zero at) h
   where
     rest : ℕ → Walked
-    rest to = record { rows = []; end = Refused TooMany }
+    rest to = record { rows = []; end = Err TooMany }
 
-    go : {x : Turn} → Found rule s zero at x → (follow x rest).end ≡ Accepted → Ends rule s zero at (follow x rest).rows
+    go : {x : Turn} → Found rule s zero at x → (follow x rest).end ≡ (Ok tt) → Ends rule s zero at (follow x rest).rows
     go (ended e) k = record { laid = done e; few = omega arith }
     go (chunk r row) k = absurd (omega arith)
     go (refusal r) k = absurd (let z : ◌≡◌ {A = ℕ} 0 1 = cc in omega arith)
@@ -156,8 +154,8 @@ walk-laid rule s (suc room) at h = go (walk-laid rule s room) (step-found rule s
     rest : ℕ → Walked
     rest to = walk rule s room to
 
-    go : ((to : ℕ) → (rest to).end ≡ Accepted → Ends rule s room to (rest to).rows) → {x : Turn} → Found rule s (suc room) at x
-        → (follow x rest).end ≡ Accepted → Ends rule s (suc room) at (follow x rest).rows
+    go : ((to : ℕ) → (rest to).end ≡ (Ok tt) → Ends rule s room to (rest to).rows) → {x : Turn} → Found rule s (suc room) at x
+        → (follow x rest).end ≡ (Ok tt) → Ends rule s (suc room) at (follow x rest).rows
     go below (ended e) k = record { laid = done e; few = omega arith }
     go below (chunk {e} r row) k =
         let b = below (past e) k in
@@ -166,8 +164,8 @@ walk-laid rule s (suc room) at h = go (walk-laid rule s room) (step-found rule s
 
 -- laid rows are what the walk shows
 pub laid-walk : {rule : Rule} {s : List ℕ} {at : ℕ} {rows : List Entry} (room : ℕ)
-    → Laid rule s at rows → length rows ≤ room → walk rule s room at ≡ record { rows = rows; end = Accepted }
-laid-walk {rule} {s} {at} room (done h) k = walk-stop rule s room at Accepted (step_end rule s room at h)
+    → Laid rule s at rows → length rows ≤ room → walk rule s room at ≡ record { rows = rows; end = Ok tt }
+laid-walk {rule} {s} {at} room (done h) k = walk-stop rule s room at (Ok tt) (step_end rule s room at h)
 laid-walk zero (next r l) k = absurd (omega arith)
 laid-walk {rule} {s} {at} (suc room) (next {e = e} r l) k =
     walk-chunk rule s room at e (past e) (step_row room r)
@@ -180,7 +178,7 @@ pub record Lies (rule : Rule) (s : List ℕ) (at : ℕ) (e : Entry) : Type 0 whe
   pub after : at + 8 ≤ e.place
   pub ends : past e ≤ length s
   pub named : number 4 (e.place - 8) s ≡ e.name
-  pub sized : rule (e.place - 8) e.name (number 4 (e.place - 4) s) ≡ given (row-size e)
+  pub sized : rule (e.place - 8) e.name (number 4 (e.place - 4) s) ≡ Ok (row-size e)
 
 row_lies : {rule : Rule} {s : List ℕ} {at : ℕ} {e : Entry} → Row rule s at e → Lies rule s at e
 row_lies {rule} {s} {at} {e} r =
@@ -224,7 +222,7 @@ laid-apart {e = e} {f = f} (next {e = x} {es = es} r l) m n =
 -- what has to hold of each row there
 pub record Shown (rule : Rule) (s : List ℕ) (e : Entry) : Type 0 where
   pub named : number 4 (e.place - 8) s ≡ e.name
-  pub sized : rule (e.place - 8) e.name (number 4 (e.place - 4) s) ≡ given (row-size e)
+  pub sized : rule (e.place - 8) e.name (number 4 (e.place - 4) s) ≡ Ok (row-size e)
 
 -- each row is now another, which has its place and size
 pub relaid-as : {rule : Rule} {s : List ℕ} {at : ℕ} {rows : List Entry} (g : Entry → Entry) (new : Rule) (u : List ℕ)
@@ -242,24 +240,18 @@ relaid-as {at = at} g new u stay h shown (next {e = x} {es = xs} r l) =
     (record { place = z.0 ∙ r.place; named = rw p at w.named; sized = rw (p, q) at w.sized; ends = omega (arith, b, h, r.ends) })
     (subst (λ (k : ℕ). Laid new u k (map g xs)) b (relaid-as g new u stay h (λ e m. shown e (Memᴰ.tail m)) l))
 
--- the same rows
-pub relaid : {rule : Rule} {s : List ℕ} {at : ℕ} {rows : List Entry} (new : Rule) (u : List ℕ) → length u ≡ length s
-    → ((e : Entry) → Memᴰ e rows → Shown new u e) → Laid rule s at rows → Laid new u at rows
-relaid {at = at} {rows = rows} new u h shown l =
-    subst (Laid new u at) (map-id rows) (relaid-as (λ (e : Entry). e) new u (λ e. (refl, refl)) h shown l)
-
 -- ---- the rule of the 32-bit walk
 
-pub own-ones : (at name own : ℕ) → own ≡ ONES → own_size at name own ≡ refused UnknownSize
+pub own-ones : (at name own : ℕ) → own ≡ ONES → own_size at name own ≡ Err UnknownSize
 unfolding own_size
 own-ones at name own h = pick_true _ _ _ (eq-eqb own ONES h)
 
-pub own-given : (at name own : ℕ) → (own ≡ ONES → ⊥) → own_size at name own ≡ given (field_size own)
+pub own-given : (at name own : ℕ) → (own ≡ ONES → ⊥) → own_size at name own ≡ Ok (field_size own)
 unfolding own_size
 own-given at name own h = pick-false _ _ _ (ne_eqb own ONES h)
 
 -- it gives no other size
-pub own-only : (at name own : ℕ) (t : TrueSize) → own_size at name own ≡ given t → t ≡ field_size own
+pub own-only : (at name own : ℕ) (t : TrueSize) → own_size at name own ≡ Ok t → t ≡ field_size own
 own-only at name own t e = go (eqb own ONES) refl
   where
     go : (b : Bool) → eqb own ONES ≡ b → t ≡ field_size own
@@ -269,12 +261,12 @@ own-only at name own t e = go (eqb own ONES) refl
 -- ---- where the sizes that a walk shows came from
 
 -- what holds of the source of each size that a rule gives holds of each row's
-pub walk-sources : (rule : Rule) (P : Source → Type 0) → ((at name own : ℕ) (t : TrueSize) → rule at name own ≡ given t → P t.source)
+pub walk-sources : (rule : Rule) (P : Source → Type 0) → ((at name own : ℕ) (t : TrueSize) → rule at name own ≡ Ok t → P t.source)
     → (s : List ℕ) (room at : ℕ) (e : Entry) → Memᴰ e (walk rule s room at).rows → P e.source
 unfolding walk follow
 walk-sources rule P f s zero at e m = go (step-found rule s zero at) m
   where
-    go : {x : Turn} → Found rule s zero at x → Memᴰ e (follow x (λ to. record { rows = []; end = Refused TooMany })).rows → P e.source
+    go : {x : Turn} → Found rule s zero at x → Memᴰ e (follow x (λ to. record { rows = []; end = Err TooMany })).rows → P e.source
     go (ended h) k = absurd (Memᴰ.not-nil k)
     go (chunk r row) k = absurd (omega arith)
     go (refusal r) k = absurd (Memᴰ.not-nil k)

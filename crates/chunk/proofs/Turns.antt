@@ -6,17 +6,15 @@ use Prim.Native.Nat.{ℕ, suc, ◌+◌, ◌-◌, ◌%◌, ◌≤◌, ◌<◌}
 use native.Mathlib.Omega.{arith}
 use lib.ListN.{length}
 use lib.Dec.{eqb, ltb, leb}
-use borrow.Author.Tests.{eq-eqb, ne_eqb, lt-ltb, le-ltb, le-leb, lt-leb, eqb-true, eqb-false, ltb-true, ltb-false, leb-true, leb-false}
+use borrow.Author.Tests.{ne_eqb, lt-ltb, le-ltb, le-leb, lt-leb, eqb-true, eqb-false, ltb-true, ltb-false, leb-true, leb-false}
 use Rattle.le.specs.Number.{number}
 use Rattle.chunk.specs.declared.Entry.{Entry}
 use Rattle.chunk.specs.declared.Header.{Header}
 use Rattle.chunk.specs.declared.TrueSize.{TrueSize}
 use Rattle.chunk.specs.declared.Refusal.TheVariants.{CutHeader, TooMany, PastEnd}
-use Rattle.chunk.specs.declared.Verdict.{Verdict}
-use Rattle.chunk.specs.declared.Verdict.TheVariants.{Accepted, Refused}
 use Rattle.chunk.specs.declared.Step.{Step}
 use Rattle.chunk.specs.declared.Step.TheVariants as code
-use Rattle.chunk.specs.Refusals.{Answer, refused, given}
+use Rattle.chunk.specs.Refusals.{Answer, Verdict, Err, Ok}
 use Rattle.chunk.specs.Walks.{Stop, Rule, Walked, entry_of, past, placed, sized, step, step_at, walk}
 use Rattle.chunk.specs.Code.{header_of, HeaderAt, Due, ends_at, placed_in, found_as, step_on, walk_after, full}
 use Rattle.chunk.proofs.Checks.{pick_true, pick-false, picked}
@@ -32,14 +30,6 @@ pub ends-past : (len next : ℕ) (e : Entry) → len < next → ends_at len next
 unfolding ends_at
 ends-past len next e h = pick_true _ _ _ (lt-ltb len next h)
 
-pub ends_last : (len next : ℕ) (e : Entry) → len ≡ next → ends_at len next e ≡ code.Last e
-unfolding ends_at
-ends_last len next e h = pick-false _ _ _ (le-ltb len next (omega arith)) ∙ pick_true _ _ _ (eq-eqb len next h)
-
-pub ends-cut : (len next : ℕ) (e : Entry) → next < len → ends_at len next e ≡ code.Cut e
-unfolding ends_at
-ends-cut len next e h = pick-false _ _ _ (le-ltb len next (omega arith)) ∙ pick-false _ _ _ (ne_eqb len next (omega arith))
-
 pub placed-whole : (len : ℕ) (e : Entry) → past e + 8 ≤ len → placed_in len e ≡ code.Chunk e (past e + 8)
 unfolding placed_in
 placed-whole len e h = pick_true _ _ _ (le-leb (past e + 8) len h)
@@ -50,7 +40,7 @@ placed-ends len e h = pick-false _ _ _ (lt-leb (past e + 8) len h)
 
 -- ---- the walk from a whole header
 
-pub step_cut : (rule : Rule) (s : List ℕ) (room at : ℕ) → at < length s → length s < at + 8 → step_at rule s room at ≡ Stop (Refused CutHeader)
+pub step_cut : (rule : Rule) (s : List ℕ) (room at : ℕ) → at < length s → length s < at + 8 → step_at rule s room at ≡ Stop (Err CutHeader)
 unfolding step_at step
 step_cut rule s room at h k =
     pick-false (eqb at (length s)) _ _ (ne_eqb at (length s) (omega arith))
@@ -59,13 +49,13 @@ step_cut rule s room at h k =
 pub walk-full : (rule : Rule) (s : List ℕ) (at : ℕ) → at + 8 ≤ length s → walk rule s 0 at ≡ full at
 unfolding step_at step full
 walk-full rule s at h =
-    walk-stop rule s 0 at (Refused TooMany)
+    walk-stop rule s 0 at (Err TooMany)
     (pick-false (eqb at (length s)) _ _ (ne_eqb at (length s) (omega arith))
     ∙ pick-false (ltb (length s) (at + 8)) _ _ (le-ltb (length s) (at + 8) h))
 
 -- a chunk that ends inside the file is shown, and then what the walk from past it shows
 shown : (rule : Rule) (s : List ℕ) (room at : ℕ) (size : TrueSize) → at + 8 ≤ length s
-    → rule at (number 4 at s) (number 4 (at + 4) s) ≡ given size → past (entry_of (at + 8) (number 4 at s) size) ≤ length s
+    → rule at (number 4 at s) (number 4 (at + 4) s) ≡ Ok size → past (entry_of (at + 8) (number 4 at s) size) ≤ length s
     → walk rule s (suc room) at
     ≡ record {
       rows = entry_of (at + 8) (number 4 at s) size ∷ (walk rule s room (past (entry_of (at + 8) (number 4 at s) size))).rows;
@@ -77,11 +67,11 @@ shown rule s room at size h e k =
     (step-sized rule s room at h ∙ ap (sized (length s) at (number 4 at s)) e ∙ pick_true _ _ _ (le-leb _ _ k))
 
 over : (rule : Rule) (s : List ℕ) (room at : ℕ) (size : TrueSize) → at + 8 ≤ length s
-    → rule at (number 4 at s) (number 4 (at + 4) s) ≡ given size → length s < past (entry_of (at + 8) (number 4 at s) size)
-    → walk rule s (suc room) at ≡ record { rows = []; end = Refused PastEnd }
+    → rule at (number 4 at s) (number 4 (at + 4) s) ≡ Ok size → length s < past (entry_of (at + 8) (number 4 at s) size)
+    → walk rule s (suc room) at ≡ record { rows = []; end = Err PastEnd }
 unfolding sized placed
 over rule s room at size h e k =
-    walk-stop rule s (suc room) at (Refused PastEnd)
+    walk-stop rule s (suc room) at (Err PastEnd)
     (step-sized rule s room at h ∙ ap (sized (length s) at (number 4 at s)) e ∙ pick-false _ _ _ (lt-leb _ _ k))
 
 -- from a header at an offset
@@ -100,10 +90,10 @@ from-header rule s room at h = go (rule at (number 4 at s) (number 4 (at + 4) s)
 
     go : (x : Answer TrueSize) → rule at (number 4 at s) (number 4 (at + 4) s) ≡ x
         → walk rule s (suc room) at ≡ walk_after (found_as (length s) (at + 8) (number 4 at s) x) (walk rule s room)
-    go (refused r) q =
-        walk-stop rule s (suc room) at (Refused r)
+    go (Err r) q =
+        walk-stop rule s (suc room) at (Err r)
         (step-sized rule s room at h ∙ ap (sized (length s) at (number 4 at s)) q)
-    go (given size) q =
+    go (Ok size) q =
         let e : Entry = entry_of (at + 8) (number 4 at s) size in
         picked P (leb (past e + 8) (length s)) _ _
         (λ w.
@@ -117,9 +107,9 @@ from-header rule s room at h = go (rule at (number 4 at s) (number 4 (at + 4) s)
         (λ w. over rule s room at size h q (ltb-true _ _ w)) λ w.
         let k : past e ≤ length s = ltb-false _ _ w in
         picked P (eqb (length s) (past e)) _ _
-        (λ v. shows e Accepted (shown rule s room at size h q k) (walk-stop rule s room (past e) Accepted (step_end rule s room (past e) (sym (eqb-true _ _ v))))) λ v.
+        (λ v. shows e (Ok tt) (shown rule s room at size h q k) (walk-stop rule s room (past e) (Ok tt) (step_end rule s room (past e) (sym (eqb-true _ _ v))))) λ v.
         let n : length s ≡ past e → ⊥ = eqb-false _ _ v in
-        shows e (Refused CutHeader) (shown rule s room at size h q k) (walk-stop rule s room (past e) (Refused CutHeader) (step_cut rule s room (past e) (omega arith) (omega (arith, u))))
+        shows e (Err CutHeader) (shown rule s room at size h q k) (walk-stop rule s room (past e) (Err CutHeader) (step_cut rule s room (past e) (omega arith) (omega (arith, u))))
 
 -- from the header ahead of a place
 pub turn : (rule : Rule) (s : List ℕ) (room place : ℕ) → Due s place
@@ -140,8 +130,8 @@ turn-due rule s place e to h q = go (rule (place - 8) (number 4 (place - 8) s) (
     P x = x ≡ code.Chunk e to → Due s to
 
     go : (x : Answer TrueSize) → found_as (length s) place (number 4 (place - 8) s) x ≡ code.Chunk e to → Due s to
-    go (refused r) p = absurd (let z : ◌≡◌ {A = ℕ} 0 1 = cc in omega arith)
-    go (given size) p =
+    go (Err r) p = absurd (let z : ◌≡◌ {A = ℕ} 0 1 = cc in omega arith)
+    go (Ok size) p =
         let f : Entry = entry_of place (number 4 (place - 8) s) size in
         (picked P (leb (past f + 8) (length s)) _ _
         (λ w p.

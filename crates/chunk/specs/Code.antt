@@ -7,10 +7,9 @@ use Rattle.chunk.specs.declared.Entry.{Entry}
 use Rattle.chunk.specs.declared.Header.{Header}
 use Rattle.chunk.specs.declared.TrueSize.{TrueSize}
 use Rattle.chunk.specs.declared.Refusal.TheVariants.{CutHeader, TooMany, PastEnd}
-use Rattle.chunk.specs.declared.Verdict.TheVariants.{Accepted, Refused}
 use Rattle.chunk.specs.declared.Step.{Step}
 use Rattle.chunk.specs.declared.Step.TheVariants.{Chunk, Last, Cut, Stop}
-use Rattle.chunk.specs.Refusals.{Answer, refused, given}
+use Rattle.chunk.specs.Refusals.{Answer, Err, Ok}
 use Rattle.chunk.specs.Walks.{Rule, Walked, entry_of, past}
 
 -- the header ahead of a place
@@ -48,8 +47,8 @@ placed_in len e = pick (leb (past e + 8) len) (Chunk e (past e + 8)) (ends_at le
 
 -- the rule's answer at a header
 unfoldable pub found_as : ℕ → ℕ → ℕ → Answer TrueSize → Step
-found_as len place name (refused r) = Stop r
-found_as len place name (given size) = placed_in len (entry_of place name size)
+found_as len place name (Err r) = Stop r
+found_as len place name (Ok size) = placed_in len (entry_of place name size)
 
 unfoldable pub step_on : Rule → List ℕ → ℕ → Step
 step_on rule s place =
@@ -58,10 +57,10 @@ step_on rule s place =
 -- the walk after a step: the chunk, and then what the walk from the next header shows
 unfoldable pub walk_after : Step → (ℕ → Walked) → Walked
 walk_after (Chunk e next) rest = record { rows = e ∷ (rest (next - 8)).rows; end = (rest (next - 8)).end }
-walk_after (Last e) rest = record { rows = e ∷ []; end = Accepted }
-walk_after (Cut e) rest = record { rows = e ∷ []; end = Refused CutHeader }
-walk_after (Stop r) rest = record { rows = []; end = Refused r }
+walk_after (Last e) rest = record { rows = e ∷ []; end = Ok tt }
+walk_after (Cut e) rest = record { rows = e ∷ []; end = Err CutHeader }
+walk_after (Stop r) rest = record { rows = []; end = Err r }
 
 -- a header is due where no more may come
 unfoldable pub full : ℕ → Walked
-full at = record { rows = []; end = Refused TooMany }
+full at = record { rows = []; end = Err TooMany }

@@ -1,10 +1,9 @@
 -- The refusals with the documents' numbers, and how checks are put one after the other.
-use Rattle.std.specs.Prelude.{ℕ, Bool}
+use Rattle.std.specs.Prelude.{ℕ, Bool, ⊤}
+pub use Rattle.std.specs.Prelude.{Result, Ok, Err}
 use Rattle.le.specs.Choice.{pick}
 use Rattle.chunk.specs.declared.Refusal.{Refusal}
 use Rattle.chunk.specs.declared.Refusal.TheVariants.{TooShort, NotWave, Unfinished, BadDs64, BadFormSize, CutHeader, TooMany, UnknownSize, PastEnd, BadChunkSet, BadFmt, RaggedAudio, BadBext, BadChna, BadRecord, TooLarge, ShortOutput, Already64, NoReserve, StaleListing}
-use Rattle.chunk.specs.declared.Verdict.{Verdict}
-use Rattle.chunk.specs.declared.Verdict.TheVariants.{Accepted, Refused}
 
 -- the document's number of each refusal
 abbrev pub refusal_number : Refusal → ℕ
@@ -29,27 +28,29 @@ refusal_number Already64 = 18
 refusal_number NoReserve = 19
 refusal_number StaleListing = 24
 
--- the number of a verdict: 0 where nothing is refused
-abbrev pub verdict_number : Verdict → ℕ
-verdict_number Accepted = 0
-verdict_number (Refused r) = refusal_number r
-
--- an answer: a refusal, or a value
-pub data Answer (A : Type 0) : Type 0 where
-  refused : Refusal → Answer A
-  given : A → Answer A
+-- an answer: a value, or a refusal
+abbrev pub Answer : Type 0 → Type 0
+Answer A = Result A Refusal
 
 -- the answer where the check holds, else the refusal
 unfoldable pub check : {A : Type 0} → Bool → Refusal → Answer A → Answer A
 unfolding pick
-check b r k = pick b k (refused r)
+check b r k = pick b k (Err r)
 
 -- a refusal, or what follows from the value
 unfoldable pub and_then : {A B : Type 0} → Answer A → (A → Answer B) → Answer B
-and_then (refused r) k = refused r
-and_then (given a) k = k a
+and_then (Err r) k = Err r
+and_then (Ok a) k = k a
 
 -- how an answer ends
+abbrev pub Verdict : Type 0
+Verdict = Answer ⊤
+
 unfoldable pub verdict_of : {A : Type 0} → Answer A → Verdict
-verdict_of (refused r) = Refused r
-verdict_of (given a) = Accepted
+verdict_of (Err r) = Err r
+verdict_of (Ok a) = Ok tt
+
+-- the number of an answer: 0 where nothing is refused
+abbrev pub number_of : {A : Type 0} → Answer A → ℕ
+number_of (Ok a) = 0
+number_of (Err r) = refusal_number r

@@ -7,9 +7,7 @@ use Rattle.chunk.specs.declared.Entry.{Entry}
 use Rattle.chunk.specs.declared.Source.TheVariants.{Own}
 use Rattle.chunk.specs.declared.TrueSize.{TrueSize}
 use Rattle.chunk.specs.declared.Refusal.TheVariants.{CutHeader, TooMany, UnknownSize, PastEnd}
-use Rattle.chunk.specs.declared.Verdict.{Verdict}
-use Rattle.chunk.specs.declared.Verdict.TheVariants.{Accepted, Refused}
-use Rattle.chunk.specs.Refusals.{Answer, refused, given}
+use Rattle.chunk.specs.Refusals.{Answer, Verdict, Err, Ok}
 use Rattle.chunk.specs.Fields.{ONES}
 
 -- A size rule: from a header's offset, its name and its own size field to the true size and where that came from, or a
@@ -33,12 +31,12 @@ past e = e.place + e.size + e.size % 2
 -- check 8, "payload or its pad passes the end"
 unfoldable pub placed : ℕ → Entry → Turn
 unfolding pick
-placed len e = pick (leb (past e) len) (Chunk e (past e)) (Stop (Refused PastEnd))
+placed len e = pick (leb (past e) len) (Chunk e (past e)) (Stop (Err PastEnd))
 
 -- the chunk of a true size, or the rule's refusal
 unfoldable pub sized : (len at name : ℕ) → Answer TrueSize → Turn
-sized len at name (refused r) = Stop (Refused r)
-sized len at name (given size) = placed len (entry_of (at + 8) name size)
+sized len at name (Err r) = Stop (Err r)
+sized len at name (Ok size) = placed len (entry_of (at + 8) name size)
 
 -- What stands at an offset of a file of len bytes whose header there has this name and size field, where room more
 -- headers may come: the end; 6, "1 to 7 bytes left where a header is due"; 9, "a 65th header"; the rule's refusal; 8;
@@ -46,9 +44,9 @@ sized len at name (given size) = placed len (entry_of (at + 8) name size)
 unfoldable pub step : (rule : Rule) (len room at name own : ℕ) → Turn
 unfolding pick
 step rule len room at name own =
-    pick (eqb at len) (Stop Accepted)
-    (pick (ltb len (at + 8)) (Stop (Refused CutHeader))
-    (pick (eqb room 0) (Stop (Refused TooMany))
+    pick (eqb at len) (Stop (Ok tt))
+    (pick (ltb len (at + 8)) (Stop (Err CutHeader))
+    (pick (eqb room 0) (Stop (Err TooMany))
     (sized len at name (rule at name own))))
 
 unfoldable pub step_at : (rule : Rule) (s : List ℕ) (room at : ℕ) → Turn
@@ -66,7 +64,7 @@ follow (Chunk e next) rest = record { rows = e ∷ (rest next).rows; end = (rest
 -- "it holds an offset, at first 12, and a list, at first empty. Where the offset is L it ends with no refusal." A step
 -- with room 0 is never a chunk, so what would follow it there is never reached.
 unfoldable pub walk : (rule : Rule) (s : List ℕ) (room at : ℕ) → Walked
-walk rule s zero at = follow (step_at rule s zero at) (λ next. record { rows = []; end = Refused TooMany })
+walk rule s zero at = follow (step_at rule s zero at) (λ next. record { rows = []; end = Err TooMany })
 walk rule s (suc room) at = follow (step_at rule s (suc room) at) (λ next. walk rule s room next)
 
 -- the size that a chunk's own field says
@@ -76,4 +74,4 @@ field_size own = record { bytes = own; source = Own }
 -- "in the walk every all-ones chunk size is 7"; any other field is the size
 unfoldable pub own_size : Rule
 unfolding pick
-own_size at name own = pick (eqb own ONES) (refused UnknownSize) (given (field_size own))
+own_size at name own = pick (eqb own ONES) (Err UnknownSize) (Ok (field_size own))

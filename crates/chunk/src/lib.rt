@@ -7,107 +7,89 @@ pub mod steps;
 
 ghost use Rattle.std.specs.Prelude.{◌≡◌, ◌+◌, ◌^◌, ◌≤◌, ◌<◌, [], length, drop, get_or};
 ghost use Rattle.std.proofs.lemmas.List.Edits.{sets};
-ghost use Rattle.chunk.specs.Refusals.{refusal_number, verdict_number};
+ghost use Rattle.chunk.specs.Refusals.{refusal_number, number_of};
 ghost use Rattle.chunk.specs.Sources.{source_number, source_of};
 ghost use Rattle.chunk.specs.Tables.{table_of, row_words, row_in, begins};
 ghost use Rattle.chunk.specs.Walks.{field_size};
 
-// Why a file, a record or a listing is refused: document 01's table, in its order, and then what document 02 adds to it.
-#[derive(Clone, Copy)]
+use std::error::Error;
+use std::fmt::{self, Display, Formatter, Write};
+
+// Why a file, a record or a listing is refused, each with its number: document 01's table, in its order, and then what
+// document 02 adds to it.
+#[derive(Clone, Copy, Debug, PartialEq, Eq)]
 pub enum Refusal {
-    // 1: the file has fewer than 12 bytes.
-    TooShort,
-    // 2: the form's name is unknown, or WAVE is absent.
-    NotWave,
-    // 3: RIFF with an all-ones form field: the take was never finished.
-    Unfinished,
-    // 4: ds64 is absent, breaks a rule of its own, or is out of place.
-    BadDs64,
-    // 5: 8 and the form size are not the file's length.
-    BadFormSize,
-    // 6: 1 to 7 bytes are left where a header is due.
-    CutHeader,
-    // 9: a 65th header.
-    TooMany,
-    // 7: an all-ones size with no true size known.
-    UnknownSize,
-    // 8: a payload or its pad passes the end.
-    PastEnd,
-    // 10: fmt or data missing or out of order, a chunk doubled, or a short fact.
-    BadChunkSet,
-    // 11: a rule of fmt is broken.
-    BadFmt,
-    // 12: the audio is not whole blocks.
-    RaggedAudio,
-    // 13: a rule of bext is broken.
-    BadBext,
-    // 14: a rule of chna is broken.
-    BadChna,
-    // 16: a writer was given a bad record, payload or ragged audio.
-    BadRecord,
-    // 17: a size to write does not fit its 32-bit field.
-    TooLarge,
-    // 15: the output is too short.
-    ShortOutput,
-    // 18: the file to upgrade has a 64-bit form already.
-    Already64,
-    // 19: the first chunk is no JUNK of 28 bytes or more.
-    NoReserve,
-    // 24: the words are no fresh listing of the file, or it has none.
-    StaleListing,
+    // The file has fewer than 12 bytes.
+    TooShort = 1,
+    // The form's name is unknown, or WAVE is absent.
+    NotWave = 2,
+    // RIFF with an all-ones form field: the take was never finished.
+    Unfinished = 3,
+    // ds64 is absent, breaks a rule of its own, or is out of place.
+    BadDs64 = 4,
+    // 8 and the form size are not the file's length.
+    BadFormSize = 5,
+    // 1 to 7 bytes are left where a header is due.
+    CutHeader = 6,
+    // A 65th header.
+    TooMany = 9,
+    // An all-ones size with no true size known.
+    UnknownSize = 7,
+    // A payload or its pad passes the end.
+    PastEnd = 8,
+    // fmt or data missing or out of order, a chunk doubled, or a short fact.
+    BadChunkSet = 10,
+    // A rule of fmt is broken.
+    BadFmt = 11,
+    // The audio is not whole blocks.
+    RaggedAudio = 12,
+    // A rule of bext is broken.
+    BadBext = 13,
+    // A rule of chna is broken.
+    BadChna = 14,
+    // A writer was given a bad record, payload or ragged audio.
+    BadRecord = 16,
+    // A size to write does not fit its 32-bit field.
+    TooLarge = 17,
+    // The output is too short.
+    ShortOutput = 15,
+    // The file to upgrade has a 64-bit form already.
+    Already64 = 18,
+    // The first chunk is no JUNK of 28 bytes or more.
+    NoReserve = 19,
+    // The words are no fresh listing of the file, or it has none.
+    StaleListing = 24,
 }
 
-impl Refusal {
+impl From<Refusal> for u32 {
+    ghost from_gives = { λ r n. n ≡ refusal_number r };
+
     // The document's number.
-    pub fn number(self) -> u32
-        ensures { result ≡ refusal_number self }
-    {
-        match self {
-            Refusal::TooShort => 1,
-            Refusal::NotWave => 2,
-            Refusal::Unfinished => 3,
-            Refusal::BadDs64 => 4,
-            Refusal::BadFormSize => 5,
-            Refusal::CutHeader => 6,
-            Refusal::TooMany => 9,
-            Refusal::UnknownSize => 7,
-            Refusal::PastEnd => 8,
-            Refusal::BadChunkSet => 10,
-            Refusal::BadFmt => 11,
-            Refusal::RaggedAudio => 12,
-            Refusal::BadBext => 13,
-            Refusal::BadChna => 14,
-            Refusal::BadRecord => 16,
-            Refusal::TooLarge => 17,
-            Refusal::ShortOutput => 15,
-            Refusal::Already64 => 18,
-            Refusal::NoReserve => 19,
-            Refusal::StaleListing => 24,
-        }
+    fn from(refusal: Refusal) -> u32 {
+        refusal as u32
     }
 }
 
-// How an operation ends.
-#[derive(Clone, Copy)]
-pub enum Verdict {
-    Accepted,
-    Refused(Refusal),
+impl Display for Refusal {
+    fn fmt<W: Write>(&self, f: &mut Formatter<W>) -> fmt::Result {
+        write!(f, "refusal {}", u32::from(*self))
+    }
 }
 
-impl Verdict {
-    // 0, or the refusal's number.
-    pub fn number(self) -> u32
-        ensures { result ≡ verdict_number self }
-    {
-        match self {
-            Verdict::Accepted => 0,
-            Verdict::Refused(r) => r.number(),
-        }
+impl Error for Refusal {}
+
+// The number of an answer: 0, or the refusal's.
+pub fn number<T>(answer: &Result<T, Refusal>) -> u32
+    ensures { result ≡ number_of answer.now }
+{
+    match answer {
+        Ok(_) => 0,
+        Err(refusal) => u32::from(*refusal),
     }
 }
 
 // Where a chunk's true size came from.
-#[derive(Clone, Copy)]
+#[derive(Clone, Copy, Debug, PartialEq, Eq)]
 pub enum Source {
     // The chunk's own size field.
     Own,
@@ -117,21 +99,37 @@ pub enum Source {
     EntryAt(u32),
 }
 
-impl Source {
+impl From<Source> for u64 {
+    ghost from_gives = { λ s n. n ≡ source_number s };
+
     // 0, 1, and for an entry 2 + its position.
-    pub fn number(self) -> u64
-        ensures { result ≡ source_number self }
-    {
-        match self {
+    fn from(source: Source) -> u64 {
+        match source {
             Source::Own => 0,
             Source::DataSize => 1,
-            Source::EntryAt(position) => 2 + position as u64,
+            Source::EntryAt(position) => 2 + u64::from(position),
+        }
+    }
+}
+
+impl Source {
+    // The source that a number tells.
+    // Kept: no TryFrom, since whoever asks knows that the number is below 2^32, and nothing is left to refuse.
+    #[tactic(auto, unfolding(crate::specs::Sources::source_of, le::specs::Choice::pick))]
+    fn of(number: u64) -> Source
+        requires { number < 2 ^ 32 }
+        ensures { result ≡ source_of number }
+    {
+        match number {
+            0 => Source::Own,
+            1 => Source::DataSize,
+            _ => Source::EntryAt((number - 2) as u32),
         }
     }
 }
 
 // A chunk's true size, and where it came from.
-#[derive(Clone, Copy)]
+#[derive(Clone, Copy, Debug, PartialEq, Eq)]
 pub struct TrueSize {
     pub bytes: u64,
     pub source: Source,
@@ -150,7 +148,7 @@ impl TrueSize {
 }
 
 // A chunk of a file: its 4-byte name as a number, where its payload starts, its true size, and where that came from.
-#[derive(Clone, Copy)]
+#[derive(Clone, Copy, Debug, PartialEq, Eq)]
 pub struct Entry {
     pub name: u64,
     pub place: u64,
@@ -158,8 +156,19 @@ pub struct Entry {
     pub source: Source,
 }
 
+impl Entry {
+    // The four words of its row.
+    #[tactic(auto, unfolding(crate::specs::Tables::row_words))]
+    pub fn words(self) -> [u64; 4]
+        ensures { result ≡ row_words self }
+    {
+        [self.name, self.place, self.size, u64::from(self.source)]
+    }
+}
+
 // The chunks of a file, in file order, as words: word 0 is their number, and chunk i has the four words from 1 + 4 i:
 // name, place, size, and the number of the size's source.
+// Kept: words with their number ahead, since C has a table so (symphedra_scan), and there is no heap.
 #[derive(Drop)]
 pub struct Table {
     pub words: [u64; Table::WORDS],
@@ -172,6 +181,7 @@ impl Table {
     pub const WORDS: usize = 1 + 4 * Table::LIMIT;
 
     // The table of no chunks.
+    #[tactic(auto, unfolding(crate::specs::Tables::table_of, crate::specs::Tables::tabled, crate::specs::Tables::all_words))]
     pub fn empty() -> Table
         ensures { result ≡ table_of [] }
     {
@@ -182,15 +192,16 @@ impl Table {
 }
 
 // Stores an entry as the four words of a row from a place on.
+// Kept: by copy_from_slice the compiler tests for an overlap, 13 instructions more a row, and walk, scan and list miss their limits.
 pub fn put_row(words: &mut [u64], at: usize, e: Entry)
     requires { at + 4 ≤ length words.old }
     ensures { words.new ≡ sets words.old at (row_words e) }
 {
-    words[at] = e.name;
-    words[at + 1] = e.place;
-    words[at + 2] = e.size;
-    let source = e.source;
-    words[at + 3] = source.number();
+    let row = e.words();
+    words[at] = row[0];
+    words[at + 1] = row[1];
+    words[at + 2] = row[2];
+    words[at + 3] = row[3];
 }
 
 // Whether the row that starts at a word is an entry's, word for word.
@@ -198,34 +209,11 @@ pub fn is_row(words: &[u64], at: usize, e: Entry) -> bool
     requires { at + 4 ≤ length words.now }
     ensures { result ≡ begins (row_words e) (drop at words.now) }
 {
-    if words[at] != e.name {
-        return false;
-    }
-    if words[at + 1] != e.place {
-        return false;
-    }
-    if words[at + 2] != e.size {
-        return false;
-    }
-    let source = e.source;
-    words[at + 3] == source.number()
-}
-
-// The source that a number tells.
-fn source_of(number: u64) -> Source
-    requires { number < 2 ^ 32 }
-    ensures { result ≡ source_of number }
-{
-    if number == 0 {
-        return Source::Own;
-    }
-    if number == 1 {
-        return Source::DataSize;
-    }
-    Source::EntryAt((number - 2) as u32)
+    &words[at..at + 4] == &e.words()[..]
 }
 
 // The entry in the row that starts at a word.
+#[tactic(auto, unfolding(crate::specs::Tables::row_in))]
 pub fn row(words: &[u64], at: usize) -> Entry
     requires { (at + 4 ≤ length words.now) × (get_or words.now (at + 3) 0 < 2 ^ 32) }
     ensures { result ≡ row_in at words.now }
@@ -234,7 +222,7 @@ pub fn row(words: &[u64], at: usize) -> Entry
         name: words[at],
         place: words[at + 1],
         size: words[at + 2],
-        source: source_of(words[at + 3]),
+        source: Source::of(words[at + 3]),
     }
 }
 
@@ -242,6 +230,7 @@ pub fn row(words: &[u64], at: usize) -> Entry
 pub const ONES: u64 = 0xFFFF_FFFF;
 
 // The 4-byte names of the format, each as the little-endian number of its bytes.
+// Kept: numbers and no enum, since a chunk may have any name, and a row of the table holds it (include/symphedra.h).
 #[derive(Drop)]
 pub struct Name;
 
@@ -271,14 +260,15 @@ impl Name {
 }
 
 // A chunk's header: its name and its own size field.
-#[derive(Clone, Copy)]
+#[derive(Clone, Copy, Debug, PartialEq, Eq)]
 pub struct Header {
     pub name: u64,
     pub field: u64,
 }
 
 // What a step of the walk finds at a header.
-#[derive(Clone, Copy)]
+// Kept: the four ends of a step in one enum, each with what it holds; a Result of the other three would be taken apart twice.
+#[derive(Clone, Copy, Debug, PartialEq, Eq)]
 pub enum Step {
     // A chunk, and the place of the next, whose header is whole.
     Chunk(Entry, u64),
@@ -288,12 +278,4 @@ pub enum Step {
     Cut(Entry),
     // No chunk.
     Stop(Refusal),
-}
-
-// What a writer answers.
-#[derive(Clone, Copy)]
-pub enum Written {
-    // How many bytes it wrote.
-    Bytes(u64),
-    Refused(Refusal),
 }

@@ -7,6 +7,7 @@ ghost use Rattle.chunk.specs.Walks.{entry_of, own_size};
 ghost use Rattle.chunk.specs.Code.{HeaderAt, Due, Fits, ends_at, placed_in, step_on};
 
 use super::{Entry, Header, Refusal, Step, TrueSize};
+use std::cmp::Ordering;
 
 // The header ahead of a place.
 pub fn header(file: &[u8], place: u64) -> Header
@@ -15,8 +16,8 @@ pub fn header(file: &[u8], place: u64) -> Header
 {
     let i = place as usize;
     Header {
-        name: le::read4(file, i - 8),
-        field: le::read4(file, i - 4),
+        name: le::read::<4>(file, i - 8),
+        field: le::read::<4>(file, i - 4),
     }
 }
 
@@ -24,12 +25,11 @@ pub fn header(file: &[u8], place: u64) -> Header
 pub fn entry(place: u64, name: u64, size: TrueSize) -> Entry
     ensures { result ≡ entry_of place name size }
 {
-    let source = size.source;
     Entry {
         name,
         place,
         size: size.bytes,
-        source,
+        source: size.source,
     }
 }
 
@@ -42,16 +42,15 @@ pub fn past(place: u64, size: u64) -> u64
 }
 
 // A chunk with no whole header after it: 8, the end, or 1 to 7 bytes. end is past its pad.
+#[tactic(auto, unfolding(crate::specs::Code::ends_at, le::specs::Choice::pick))]
 fn ends(len: u64, end: u64, e: Entry) -> Step
     ensures { result ≡ ends_at len end e }
 {
-    if len < end {
-        return Step::Stop(Refusal::PastEnd);
+    match len.cmp(&end) {
+        Ordering::Less => Step::Stop(Refusal::PastEnd),
+        Ordering::Equal => Step::Last(e),
+        Ordering::Greater => Step::Cut(e),
     }
-    if len == end {
-        return Step::Last(e);
-    }
-    Step::Cut(e)
 }
 
 // The chunk of a true size, with what follows it. One test tells that all is well.

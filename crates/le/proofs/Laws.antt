@@ -27,7 +27,7 @@ pub stored-length : (n at v : ℕ) (s : List ℕ) → length (stored n at v s) �
 unfolding stored
 stored-length n at v s = length-sets s at (bytes n v)
 
-value-append : (a b : List ℕ) → value (a ++ b) ≡ value a + 256 ^ length a * value b
+pub value-append : (a b : List ℕ) → value (a ++ b) ≡ value a + 256 ^ length a * value b
 unfolding value
 value-append [] b = omega (arith, pow-zero 256)
 value-append (x ∷ a) b =
@@ -70,7 +70,7 @@ number_bound n at s b = value-bound n (drop at s) (Bytes-drop at s b)
 
 -- ---- stores
 
-bytes-append : (n m v : ℕ) → bytes (n + m) v ≡ bytes n v ++ bytes m (v / 256 ^ n)
+pub bytes-append : (n m v : ℕ) → bytes (n + m) v ≡ bytes n v ++ bytes m (v / 256 ^ n)
 unfolding bytes
 bytes-append zero m v = rw (zero-add, pow-zero, div-one)
 bytes-append (suc n) m v =
@@ -100,6 +100,14 @@ field-sets at bs s h =
     rw (sets-eq bs s at, append_assoc)
     (ap (take (length bs)) (drop_at (take at s) (bs ++ drop (at + length bs) s) at (length-take-le at s (omega arith)))
     ∙ take_at bs (drop (at + length bs) s) (length bs) refl)
+
+-- a part of a list in which a run was put
+pub part-set : (s z bs : List ℕ) (at k : ℕ) → z ≡ bs → k ≡ length bs → at + k ≤ length s
+    → take at s ++ (z ++ drop k (drop at s)) ≡ sets s at bs
+part-set s z bs at k e h f =
+    ap₂ (λ (a b : List ℕ). take at s ++ (a ++ b)) e (drop-drop k at s ∙ ap (λ (m : ℕ). drop (at + m) s) h)
+    ∙ sym (append_assoc (take at s) bs (drop (at + length bs) s))
+    ∙ sym (sets-eq bs s at (omega arith))
 
 -- a run that starts with a number is stored as that number, and then the rest
 pub stored-then : (n at v : ℕ) (ys s : List ℕ) → sets s at (bytes n v ++ ys) ≡ sets (stored n at v s) (at + n) ys

@@ -6,4 +6,4 @@ use Rattle.chunk.proofs.put_row.Goals as goal
 
 pub returns : goal.returns
 unfolding row_words
-returns c = simp (towards_suc, c.number.ensures) refl
+returns c = simp (towards_suc, c.words-row.ensures) refl
