@@ -12,7 +12,7 @@ use borrow.Author.Tests.{le-leb, leb-true, eq-eqb, ne_eqb, eqb-true, eqb-false, 
 use Rattle.le.specs.Number.{number}
 use Rattle.le.proofs.Laws.{number-split}
 use Rattle.chunk.specs.declared.Refusal.TheVariants.{NotWave}
-use Rattle.chunk.specs.Refusals.{Answer, given}
+use Rattle.chunk.specs.Refusals.{Answer, Ok}
 use Rattle.chunk.specs.Names.{RIFF, RF64, BW64, WAVE, DS64}
 use Rattle.chunk.specs.Fields.{ONES}
 use Rattle.chunk.proofs.Checks.{picked, true-false, given-inj, refused-given, check-given, check-true, and_then-given, and_then-at, rule_and, or-true, pick-false}
@@ -26,13 +26,13 @@ pub record Opened (s : List ℕ) (h : Head) : Type 0 where
   pub long : 12 ≤ length s
   pub named : number 4 0 s ≡ name_of h.form
   pub wave : number 4 8 s ≡ WAVE
-  pub head : head_as h.form s ≡ given h
+  pub head : head_as h.form s ≡ Ok h
   pub whole : 8 + form_size h (number 4 4 s) ≡ length s
   pub least : 4 ≤ form_size h (number 4 4 s)
 
 -- ---- the form's name
 
-pub form-named : (name : ℕ) (f : Form) → form_of name ≡ given f → name ≡ name_of f
+pub form-named : (name : ℕ) (f : Form) → form_of name ≡ Ok f → name ≡ name_of f
 unfolding form_of name_of
 form-named name f =
     picked P (eqb name RIFF) _ _ (λ h e. eqb-true name RIFF h ∙ ap name_of (given-inj Riff f e)) λ _.
@@ -41,9 +41,9 @@ form-named name f =
     absurd (refused-given NotWave f e)
   where
     P : Answer Form → Type 0
-    P x = x ≡ given f → name ≡ name_of f
+    P x = x ≡ Ok f → name ≡ name_of f
 
-pub named-form : (name : ℕ) (f : Form) → name ≡ name_of f → form_of name ≡ given f
+pub named-form : (name : ℕ) (f : Form) → name ≡ name_of f → form_of name ≡ Ok f
 unfolding form_of name_of
 named-form name Riff e = rw e
 named-form name Rf64 e = rw e
@@ -72,7 +72,7 @@ form-ones h = refl
 
 -- ---- a head keeps the form it was read as
 
-pub riff-head : (s : List ℕ) (h : Head) → head_as Riff s ≡ given h
+pub riff-head : (s : List ℕ) (h : Head) → head_as Riff s ≡ Ok h
     → (number 4 4 s ≡ ONES → ⊥) × (h ≡ record { form = Riff; ds64 = no_ds64 })
 unfolding head_as
 riff-head s h e =
@@ -82,7 +82,7 @@ riff-head s h e =
 abbrev good_at : List ℕ → Bool
 good_at s = ds64_good (length s) (number 4 12 s) (number 4 16 s) (number 4 44 s)
 
-pub wide-head : (f : Form) (s : List ℕ) (h : Head) → is_wide f ≡ true → head_as f s ≡ given h
+pub wide-head : (f : Form) (s : List ℕ) (h : Head) → is_wide f ≡ true → head_as f s ≡ Ok h
     → (good_at s ≡ true) × (h ≡ record { form = f; ds64 = ds64_at s })
 unfolding wide_as head_as is_wide
 wide-head Riff s h w e = absurd (true-false false w refl)
@@ -90,13 +90,13 @@ wide-head Rf64 s h w e = let c = check-given (good_at s) _ _ h e in (c.0, sym (g
 wide-head Bw64 s h w e = let c = check-given (good_at s) _ _ h e in (c.0, sym (given-inj _ _ c.1))
 
 pub head-wide : (f : Form) (s : List ℕ) → is_wide f ≡ true → good_at s ≡ true
-    → head_as f s ≡ given (record { form = f; ds64 = ds64_at s })
+    → head_as f s ≡ Ok (record { form = f; ds64 = ds64_at s })
 unfolding wide_as head_as is_wide
 head-wide Riff s w e = absurd (true-false false w refl)
 head-wide Rf64 s w e = check-true (good_at s) _ _ e
 head-wide Bw64 s w e = check-true (good_at s) _ _ e
 
-head-form : (f : Form) (s : List ℕ) (h : Head) → head_as f s ≡ given h → h.form ≡ f
+head-form : (f : Form) (s : List ℕ) (h : Head) → head_as f s ≡ Ok h → h.form ≡ f
 unfolding is_wide
 head-form Riff s h e = ap (λ (x : Head). x.form) (riff-head s h e).1
 head-form Rf64 s h e = ap (λ (x : Head). x.form) (wide-head Rf64 s h refl e).1
@@ -147,16 +147,9 @@ unfolding ds64_at
 ds64-whole s h =
     (number-split 4 4 20 s (omega arith), number-split 4 4 28 s (omega arith), number-split 4 4 36 s (omega arith))
 
-pub ds64-broken : (len name size count : ℕ) → (Ds64Rules len name size count → ⊥) → ds64_good len name size count ≡ false
-ds64-broken len name size count k = go (ds64_good len name size count) refl
-  where
-    go : (b : Bool) → ds64_good len name size count ≡ b → ds64_good len name size count ≡ false
-    go true e = absurd (k (ds64-rules len name size count e))
-    go false e = e
-
 -- ---- both directions
 
-pub head_opened : (s : List ℕ) (h : Head) → head_of s ≡ given h → Opened s h
+pub head_opened : (s : List ℕ) (h : Head) → head_of s ≡ Ok h → Opened s h
 unfolding whole_as head_of
 head_opened s h e =
     let c1 = check-given (leb 12 (length s)) _ _ h e in
@@ -167,8 +160,8 @@ head_opened s h e =
     gather c2.0 c4.0 (leb-true 12 (length s) c1.0) c2.1 (eqb-true (number 4 8 s) WAVE c3.0) c4.1
     (whole-true (length s) (form_size c4.0 (number 4 4 s)) c5.0) (given-inj c4.0 h c5.1)
   where
-    gather : (f : Form) (g : Head) → 12 ≤ length s → form_of (number 4 0 s) ≡ given f → number 4 8 s ≡ WAVE
-        → head_as f s ≡ given g → (8 + form_size g (number 4 4 s) ≡ length s) × (4 ≤ form_size g (number 4 4 s)) → g ≡ h
+    gather : (f : Form) (g : Head) → 12 ≤ length s → form_of (number 4 0 s) ≡ Ok f → number 4 8 s ≡ WAVE
+        → head_as f s ≡ Ok g → (8 + form_size g (number 4 4 s) ≡ length s) × (4 ≤ form_size g (number 4 4 s)) → g ≡ h
         → Opened s h
     gather f g long form wave head whole is =
         let keeps : g.form ≡ f = head-form f s g head in
@@ -182,7 +175,7 @@ head_opened s h e =
           least = whole.1;
         })
 
-pub opened-head : (s : List ℕ) (h : Head) → Opened s h → head_of s ≡ given h
+pub opened-head : (s : List ℕ) (h : Head) → Opened s h → head_of s ≡ Ok h
 unfolding whole_as head_of
 opened-head s h o =
     check-true (leb 12 (length s)) _ _ (le-leb 12 (length s) o.long)
@@ -193,7 +186,7 @@ opened-head s h o =
 
 -- ---- the 32-bit walk opens what the scan opens
 
-pub opened-32 : (s : List ℕ) (h : Head) → Opened s h → open_for32 s ≡ given 12
+pub opened-32 : (s : List ℕ) (h : Head) → Opened s h → open_for32 s ≡ Ok 12
 unfolding open_for32
 opened-32 s h o =
     check-true (leb 12 (length s)) _ _ (le-leb 12 (length s) o.long)

@@ -1,27 +1,42 @@
--- What the code alone needs: its enums for the answers of Forms, and the parts that it makes them of.
-use Rattle.std.specs.Prelude.{ℕ, ◌+◌, ◌-◌, ◌%◌, List, length}
+-- What the code alone needs: the parts that it makes the answers of Forms of.
+use Rattle.std.specs.Prelude.{ℕ, ◌+◌, ◌-◌, ◌%◌, List, length, eqb, leb}
 use Rattle.le.specs.Number.{number}
 use Rattle.le.specs.Choice.{pick}
-use Rattle.chunk.specs.Refusals.{Answer, refused, given, and_then}
+use Rattle.chunk.specs.declared.Refusal.TheVariants.{TooShort, NotWave, BadDs64, BadFormSize}
+use Rattle.chunk.specs.Refusals.{Answer, Verdict, Err, Ok, check, and_then}
+use Rattle.chunk.specs.Names.{WAVE}
 use Rattle.chunk.specs.Tables.{LIMIT}
 use Rattle.form.specs.declared.Form.{Form}
 use Rattle.form.specs.declared.Head.{Head}
-use Rattle.form.specs.declared.Opened.{Opened}
-use Rattle.form.specs.declared.Opened.TheVariants as opened
-use Rattle.form.specs.declared.Parsing.{Parsing}
-use Rattle.form.specs.declared.Parsing.TheVariants as parsing
-use Rattle.form.specs.Forms.{is_wide, ds64_good, ds64_at, head_as, whole_as}
+use Rattle.form.specs.declared.Start.{Start}
+use Rattle.form.specs.declared.Parsed.{Parsed}
+use Rattle.form.specs.Forms.{is_wide, form_of, ds64_good, ds64_at, whole_form}
 
 -- the place of the chunk past a first chunk of a size
 abbrev pub second : ℕ → ℕ
 second n = 20 + n + n % 2 + 8
 
 -- check 4
-unfoldable pub parsed_as : List ℕ → Parsing
-unfolding pick
+unfoldable pub parsed_as : List ℕ → Answer Parsed
+unfolding check
 parsed_as s =
-    pick (ds64_good (length s) (number 4 12 s) (number 4 16 s) (number 4 44 s))
-    (parsing.Good (record { ds64 = ds64_at s; next = second (number 4 16 s) })) parsing.Broken
+    check (ds64_good (length s) (number 4 12 s) (number 4 16 s) (number 4 44 s)) BadDs64
+    (Ok (record { ds64 = ds64_at s; next = second (number 4 16 s) }))
+
+-- checks 1 and 2, but for the form's name
+unfoldable pub wave_of : List ℕ → Verdict
+unfolding check
+wave_of s = check (leb 12 (length s)) TooShort (check (eqb (number 4 8 s) WAVE) NotWave (Ok tt))
+
+-- checks 1 and 2
+unfoldable pub form_in : List ℕ → Answer Form
+unfolding and_then
+form_in s = and_then (wave_of s) λ _. form_of (number 4 0 s)
+
+-- check 5 of a form size
+unfoldable pub whole_of : (len size : ℕ) → Verdict
+unfolding check
+whole_of len size = check (whole_form len size) BadFormSize (Ok tt)
 
 -- where the chunks that are not ds64 start, and how many may come there
 unfoldable pub place_of : Form → List ℕ → ℕ
@@ -32,11 +47,6 @@ unfoldable pub room_of : Form → ℕ
 unfolding pick
 room_of f = pick (is_wide f) (LIMIT - 1) LIMIT
 
-unfoldable pub opened_as : List ℕ → Answer Head → Opened
-opened_as s (refused r) = opened.Refused r
-opened_as s (given h) = opened.Start (record { head = h; place = place_of h.form s; room = room_of h.form })
-
--- check 3 or 4, then 5
-unfoldable pub head_then : Form → List ℕ → Answer Head
-unfolding and_then
-head_then f s = and_then (head_as f s) λ h. whole_as h s
+unfoldable pub opened_as : List ℕ → Answer Head → Answer Start
+opened_as s (Err r) = Err r
+opened_as s (Ok h) = Ok (record { head = h; place = place_of h.form s; room = room_of h.form })

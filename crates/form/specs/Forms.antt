@@ -3,7 +3,7 @@ use Rattle.std.specs.Prelude.{ℕ, ◌+◌, ◌*◌, ◌%◌, Bool, true, false,
 use Rattle.le.specs.Number.{number}
 use Rattle.le.specs.Choice.{pick, every}
 use Rattle.chunk.specs.declared.Refusal.TheVariants.{TooShort, NotWave, Unfinished, BadDs64, BadFormSize}
-use Rattle.chunk.specs.Refusals.{Answer, refused, given, check, and_then}
+use Rattle.chunk.specs.Refusals.{Answer, Err, Ok, check, and_then}
 use Rattle.chunk.specs.Names.{RIFF, RF64, BW64, WAVE, DS64}
 use Rattle.chunk.specs.Fields.{ONES}
 use Rattle.form.specs.declared.Form.{Form}
@@ -27,10 +27,10 @@ is_wide Bw64 = true
 unfoldable pub form_of : ℕ → Answer Form
 unfolding pick
 form_of name =
-    pick (eqb name RIFF) (given Riff)
-    (pick (eqb name RF64) (given Rf64)
-    (pick (eqb name BW64) (given Bw64)
-    (refused NotWave)))
+    pick (eqb name RIFF) (Ok Riff)
+    (pick (eqb name RF64) (Ok Rf64)
+    (pick (eqb name BW64) (Ok Bw64)
+    (Err NotWave)))
 
 -- The limits of ds64: the most entries ("count is at most 16"), the least payload and an entry ("at least 28 + 12 x count
 -- bytes"). Ds64::LIMIT, Ds64::LEAST and Ds64::ENTRY of the code; the reserve of a RIFF file is as large as the least.
@@ -69,12 +69,12 @@ unfoldable pub wide_as : Form → List ℕ → Answer Head
 unfolding check
 wide_as f s =
     check (ds64_good (length s) (number 4 12 s) (number 4 16 s) (number 4 44 s)) BadDs64
-    (given (record { form = f; ds64 = ds64_at s }))
+    (Ok (record { form = f; ds64 = ds64_at s }))
 
 -- check 3 for RIFF, "an all-ones form field"; check 4 for the others
 unfoldable pub head_as : Form → List ℕ → Answer Head
 unfolding check
-head_as Riff s = check (not (eqb (number 4 4 s) ONES)) Unfinished (given (record { form = Riff; ds64 = no_ds64 }))
+head_as Riff s = check (not (eqb (number 4 4 s) ONES)) Unfinished (Ok (record { form = Riff; ds64 = no_ds64 }))
 head_as Rf64 s = wide_as Rf64 s
 head_as Bw64 s = wide_as Bw64 s
 
@@ -91,7 +91,7 @@ whole_form len size = every (eqb (8 + size) len ∷ leb 4 size ∷ [])
 -- check 5
 unfoldable pub whole_as : Head → List ℕ → Answer Head
 unfolding check
-whole_as h s = check (whole_form (length s) (form_size h (number 4 4 s))) BadFormSize (given h)
+whole_as h s = check (whole_form (length s) (form_size h (number 4 4 s))) BadFormSize (Ok h)
 
 -- checks 1 to 5 of the scan
 unfoldable pub head_of : List ℕ → Answer Head
@@ -111,4 +111,4 @@ open_for32 s =
     check (leb 12 (length s)) TooShort
     (check (eqb (number 4 8 s) WAVE) NotWave
     (check (eqb (number 4 4 s) ONES || whole_form (length s) (number 4 4 s)) BadFormSize
-    (given 12)))
+    (Ok 12)))

@@ -10,7 +10,7 @@ use lib.Seq.{drop-drop}
 use borrow.Author.Tests.{eq-eqb, ne_eqb}
 use Rattle.le.specs.Number.{number, field}
 use Rattle.chunk.specs.declared.Refusal.TheVariants.{UnknownSize, BadDs64}
-use Rattle.chunk.specs.Refusals.{refused, given}
+use Rattle.chunk.specs.Refusals.{Err, Ok}
 use Rattle.chunk.specs.Fields.{ONES}
 use Rattle.chunk.specs.Walks.{field_size}
 use Rattle.chunk.proofs.Checks.{check-true, check-false, pick_true, pick-false}
@@ -20,7 +20,7 @@ use Rattle.truesize.specs.Sizes.{Ds64Entry, entries_in, size_at, entry_size, str
 
 -- the entry at a place, which has this position, has the name
 pub entry_here : (p name left at : ℕ) (s : List ℕ) → 0 < left → number 4 at s ≡ name
-    → entry_size p name (entries_in left (drop at s)) ≡ given (size_at p (number 8 (at + 4) s))
+    → entry_size p name (entries_in left (drop at s)) ≡ Ok (size_at p (number 8 (at + 4) s))
 unfolding entries_in entry_size number field
 entry_here p name zero at s h e = absurd (omega arith)
 entry_here p name (suc left) at s h e = rw (eq-eqb (number 4 at s) name e, drop-drop 4 at s)
@@ -35,19 +35,19 @@ entry-later p name (suc left) next at s e n =
     (ap (λ (k : ℕ). entry_size (p + 1) name (entries_in k (drop (at + ENTRY) s))) (let q : left ≡ next = omega (arith, e) in q))
 
 -- no entry is left
-pub entry-none : (p name left : ℕ) (s : List ℕ) → left ≡ 0 → entry_size p name (entries_in left s) ≡ refused UnknownSize
+pub entry-none : (p name left : ℕ) (s : List ℕ) → left ≡ 0 → entry_size p name (entries_in left s) ≡ Err UnknownSize
 unfolding entries_in entry_size
 entry-none p name left s e = rw e
 
 -- ---- the scan's size rule, one law for each outcome
 
 pub true-stray : (h : Head) (ks : List Ds64Entry) (at name own : ℕ) → stray_ds64 h.form at name ≡ true
-    → true_size h ks at name own ≡ refused BadDs64
+    → true_size h ks at name own ≡ Err BadDs64
 unfolding true_size
 true-stray h ks at name own e = check-false _ _ _ (ap not e)
 
 pub true-field : (h : Head) (ks : List Ds64Entry) (at name own : ℕ) → stray_ds64 h.form at name ≡ false → (own ≡ ONES → ⊥)
-    → true_size h ks at name own ≡ given (field_size own)
+    → true_size h ks at name own ≡ Ok (field_size own)
 unfolding true_size
 true-field h ks at name own e n = check-true _ _ _ (ap not e) ∙ pick-false _ _ _ (ne_eqb own ONES n)
 

@@ -15,7 +15,7 @@ use Rattle.chunk.specs.declared.Refusal.TheVariants.{BadDs64, UnknownSize}
 use Rattle.chunk.specs.declared.Source.{Source}
 use Rattle.chunk.specs.declared.Source.TheVariants.{Own, DataSize, EntryAt}
 use Rattle.chunk.specs.declared.TrueSize.{TrueSize}
-use Rattle.chunk.specs.Refusals.{given}
+use Rattle.chunk.specs.Refusals.{Ok}
 use Rattle.chunk.specs.Sources.{source_number}
 use Rattle.chunk.specs.Names.{DATA}
 use Rattle.chunk.specs.Fields.{ONES}
@@ -34,19 +34,19 @@ size_is t n s p q = λ i. record { bytes = p i; source = q i }
 
 -- ---- "the first entry of that name"
 
-first-given : (name p size : ℕ) (ks : List Ds64Entry) → FirstEntry name p size ks → entry_size 0 name ks ≡ given (size_at p size)
+first-given : (name p size : ℕ) (ks : List Ds64Entry) → FirstEntry name p size ks → entry_size 0 name ks ≡ Ok (size_at p size)
 unfolding entry_size
 first-given name p size ks f =
     ap (entry_size 0 name) f.is ∙ go 0 f.before f.none
-    ∙ ap (λ (q : ℕ). given (size_at q size)) (zero-add (length f.before) ∙ f.at)
+    ∙ ap (λ (q : ℕ). Ok (size_at q size)) (zero-add (length f.before) ∙ f.at)
   where
     go : (q : ℕ) (xs : List Ds64Entry) → ((k : Ds64Entry) → Memᴰ k xs → k.name ≡ name → ⊥)
-        → entry_size q name (xs ++ record { name = name; size = size } ∷ f.after) ≡ given (size_at (q + length xs) size)
-    go q [] n = pick_true (eqb name name) _ _ (eq-eqb name name refl) ∙ ap (λ (i : ℕ). given (size_at i size)) (sym (add-zero q))
+        → entry_size q name (xs ++ record { name = name; size = size } ∷ f.after) ≡ Ok (size_at (q + length xs) size)
+    go q [] n = pick_true (eqb name name) _ _ (eq-eqb name name refl) ∙ ap (λ (i : ℕ). Ok (size_at i size)) (sym (add-zero q))
     go q (x ∷ xs) n =
         pick-false (eqb x.name name) _ _ (ne_eqb x.name name (n x (Memᴰ.head refl)))
         ∙ go (q + 1) xs (λ k m. n k (Memᴰ.tail m))
-        ∙ ap (λ (i : ℕ). given (size_at i size)) (let e : q + 1 + length xs ≡ q + length (x ∷ xs) = omega arith in e)
+        ∙ ap (λ (i : ℕ). Ok (size_at i size)) (let e : q + 1 + length xs ≡ q + length (x ∷ xs) = omega arith in e)
 
 -- the entries from a position on give a size: one of them is the first of the name
 record Gives (q name : ℕ) (ks : List Ds64Entry) (t : TrueSize) : Type 0 where
@@ -54,7 +54,7 @@ record Gives (q name : ℕ) (ks : List Ds64Entry) (t : TrueSize) : Type 0 where
   source : t.source ≡ EntryAt (q + p)
   first : FirstEntry name p t.bytes ks
 
-given-first : (q name : ℕ) (ks : List Ds64Entry) (t : TrueSize) → entry_size q name ks ≡ given t → Gives q name ks t
+given-first : (q name : ℕ) (ks : List Ds64Entry) (t : TrueSize) → entry_size q name ks ≡ Ok t → Gives q name ks t
 unfolding entry_size
 given-first q name [] t e = absurd (refused-given UnknownSize t e)
 given-first q name (k ∷ ks) t e = go (given-first (q + 1) name ks t) (eqb k.name name) refl
@@ -64,7 +64,7 @@ given-first q name (k ∷ ks) t e = go (given-first (q + 1) name ks t) (eqb k.na
     miss n b f x p (inl i) = n (sym (ap (λ (y : Ds64Entry). y.name) i) ∙ p)
     miss n b f x p (inr m) = f x m p
 
-    go : (entry_size (q + 1) name ks ≡ given t → Gives (q + 1) name ks t) → (b : Bool) → eqb k.name name ≡ b → Gives q name (k ∷ ks) t
+    go : (entry_size (q + 1) name ks ≡ Ok t → Gives (q + 1) name ks t) → (b : Bool) → eqb k.name name ≡ b → Gives q name (k ∷ ks) t
     go below true h =
         let n : k.name ≡ name = eqb-true k.name name h in
         let z : size_at q k.size ≡ t = given-inj _ t (sym (pick_true (eqb k.name name) _ _ h) ∙ e) in
@@ -99,31 +99,31 @@ given-first q name (k ∷ ks) t e = go (given-first (q + 1) name ks t) (eqb k.na
 -- ---- a told size is given
 
 pub told-size : (h : Head) (ks : List Ds64Entry) (at name own : ℕ) (t : TrueSize) → stray_ds64 h.form at name ≡ false
-    → Told h.form h.ds64 ks name own t → true_size h ks at name own ≡ given t
+    → Told h.form h.ds64 ks name own t → true_size h ks at name own ≡ Ok t
 told-size h ks at name own t p g = go (eqb own ONES) refl
   where
-    of-ds64 : own ≡ ONES → (b : Bool) → eqb name DATA ≡ b → known_size h.ds64 ks name ≡ given t
+    of-ds64 : own ≡ ONES → (b : Bool) → eqb name DATA ≡ b → known_size h.ds64 ks name ≡ Ok t
     of-ds64 o true e =
         let n = eqb-true name DATA e in
         let a = g.audio o n in
-        known-data _ ks name n ∙ ap given (sym (size_is t _ _ a.0 a.1))
+        known-data _ ks name n ∙ ap Ok (sym (size_is t _ _ a.0 a.1))
     of-ds64 o false e =
         let n = eqb-false name DATA e in
         let a = g.other o n in
-        known-other _ ks name n ∙ first-given name a.0 _ ks a.2 ∙ ap given (sym (size_is t _ _ refl a.1))
+        known-other _ ks name n ∙ first-given name a.0 _ ks a.2 ∙ ap Ok (sym (size_is t _ _ refl a.1))
 
-    go : (b : Bool) → eqb own ONES ≡ b → true_size h ks at name own ≡ given t
+    go : (b : Bool) → eqb own ONES ≡ b → true_size h ks at name own ≡ Ok t
     go true e =
         let o = eqb-true own ONES e in
         true-ones h ks at name own p o ∙ ones-wide h.form _ ks name (g.wide o) ∙ of-ds64 o (eqb name DATA) refl
     go false e =
         let o = eqb-false own ONES e in
         let a = g.plain o in
-        true-field h ks at name own p o ∙ ap given (sym (size_is t _ _ (sym a.0) a.1))
+        true-field h ks at name own p o ∙ ap Ok (sym (size_is t _ _ (sym a.0) a.1))
 
 -- ---- a given size is told
 
-pub size-told : (h : Head) (ks : List Ds64Entry) (at name own : ℕ) (t : TrueSize) → true_size h ks at name own ≡ given t
+pub size-told : (h : Head) (ks : List Ds64Entry) (at name own : ℕ) (t : TrueSize) → true_size h ks at name own ≡ Ok t
     → Told h.form h.ds64 ks name own t
 size-told h ks at name own t e =
     record {
@@ -143,10 +143,10 @@ size-told h ks at name own t e =
     placed true s = absurd (refused-given BadDs64 t (sym (true-stray h ks at name own s) ∙ e))
     placed false s = s
 
-    of-ds64 : own ≡ ONES → ones_size h.form h.ds64 ks name ≡ given t
+    of-ds64 : own ≡ ONES → ones_size h.form h.ds64 ks name ≡ Ok t
     of-ds64 o = sym (true-ones h ks at name own (placed (stray_ds64 h.form at name) refl) o) ∙ e
 
-    known : own ≡ ONES → known_size h.ds64 ks name ≡ given t
+    known : own ≡ ONES → known_size h.ds64 ks name ≡ Ok t
     known o = sym (ones-wide h.form _ ks name (given-wide h.form _ ks name t (of-ds64 o))) ∙ of-ds64 o
 
 -- ---- what the source tells

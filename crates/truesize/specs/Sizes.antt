@@ -5,7 +5,7 @@ use Rattle.le.specs.Choice.{pick}
 use Rattle.chunk.specs.declared.TrueSize.{TrueSize}
 use Rattle.chunk.specs.declared.Source.TheVariants.{DataSize, EntryAt}
 use Rattle.chunk.specs.declared.Refusal.TheVariants.{BadDs64, UnknownSize}
-use Rattle.chunk.specs.Refusals.{Answer, refused, given, check}
+use Rattle.chunk.specs.Refusals.{Answer, Err, Ok, check}
 use Rattle.chunk.specs.Names.{DS64, DATA}
 use Rattle.chunk.specs.Fields.{ONES}
 use Rattle.chunk.specs.Walks.{Rule, field_size}
@@ -39,18 +39,18 @@ size_at position size = record { bytes = size; source = EntryAt position }
 -- "the first entry of that name" among those from a position on, or 7
 unfoldable pub entry_size : (position name : ℕ) → List Ds64Entry → Answer TrueSize
 unfolding pick
-entry_size p name [] = refused UnknownSize
-entry_size p name (k ∷ ks) = pick (eqb k.name name) (given (size_at p k.size)) (entry_size (p + 1) name ks)
+entry_size p name [] = Err UnknownSize
+entry_size p name (k ∷ ks) = pick (eqb k.name name) (Ok (size_at p k.size)) (entry_size (p + 1) name ks)
 
 -- "on data, the ds64 data size; on another chunk, the first entry of that name", positions counted "from 0"
 unfoldable pub known_size : Ds64 → List Ds64Entry → ℕ → Answer TrueSize
 unfolding pick
-known_size d ks name = pick (eqb name DATA) (given (data_size d)) (entry_size 0 name ks)
+known_size d ks name = pick (eqb name DATA) (Ok (data_size d)) (entry_size 0 name ks)
 
 -- an all-ones field: 7 in RIFF, in the 64-bit forms what ds64 says
 unfoldable pub ones_size : Form → Ds64 → List Ds64Entry → ℕ → Answer TrueSize
 unfolding known_size
-ones_size Riff d ks name = refused UnknownSize
+ones_size Riff d ks name = Err UnknownSize
 ones_size Rf64 d ks name = known_size d ks name
 ones_size Bw64 d ks name = known_size d ks name
 
@@ -64,4 +64,4 @@ unfoldable pub true_size : Head → List Ds64Entry → Rule
 unfolding check pick stray_ds64
 true_size h ks at name own =
     check (not (stray_ds64 h.form at name)) BadDs64
-    (pick (eqb own ONES) (ones_size h.form h.ds64 ks name) (given (field_size own)))
+    (pick (eqb own ONES) (ones_size h.form h.ds64 ks name) (Ok (field_size own)))

@@ -1,23 +1,21 @@
--- `truesize::ones_size` meets its contract: RIFF knows no size, the 64-bit forms ask ds64.
+-- `truesize::ones_size` meets its contract: RIFF knows no size, the 64-bit forms ask ds64, and the name picks the case.
 use mathlib.Core.Path.{◌∙◌, ap, sym}
+use Rattle.chunk.specs.Refusals.{Ok}
 use Rattle.truesize.specs.Sizes.{entries_of}
-use Rattle.truesize.specs.Code.{size_as}
-use Rattle.truesize.proofs.Sizes.{ones-riff, ones-wide}
+use Rattle.truesize.proofs.Sizes.{ones-riff, ones-wide, known-data, known-other}
 use Rattle.truesize.proofs.ones_size.Goals as goal
 
 pub returns-then-not-is_wide : goal.returns-then-not-is_wide
-unfolding size_as
 returns-then-not-is_wide c =
-    sym (ap size_as (ones-riff _ _ _ _ (sym c.before.is_wide.ensures ∙ c.if-not-is_wide.true)))
+    sym (ones-riff _ _ _ _ (sym c.is_wide.ensures ∙ c.if-not-is_wide.true))
 
-pub known_size-requires : goal.known_size-requires
-known_size-requires c =
-    let f = c.requires in
-    let w = sym c.before.is_wide.ensures ∙ c.if-not-is_wide.false in
-    (f.inside w, f.few w)
+pub returns-then-name-eq-DATA : goal.returns-then-name-eq-DATA
+returns-then-name-eq-DATA c =
+    ap Ok c.data_size.ensures
+    ∙ sym (ones-wide _ _ _ _ (sym c.is_wide.ensures ∙ c.if-not-is_wide.false) ∙ known-data _ _ _ c.if-name-eq-DATA.true)
 
 pub returns : goal.returns
 unfolding entries_of
 returns c =
-    c.known_size.ensures
-    ∙ sym (ap size_as (ones-wide _ _ _ _ (sym c.before.before.is_wide.ensures ∙ c.if-not-is_wide.false)))
+    c.entry_size.ensures
+    ∙ sym (ones-wide _ _ _ _ (sym c.is_wide.ensures ∙ c.if-not-is_wide.false) ∙ known-other _ _ _ c.if-name-eq-DATA.false)

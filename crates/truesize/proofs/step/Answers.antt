@@ -6,17 +6,17 @@ use native.Mathlib.Omega.{arith}
 use lib.ListN.{length}
 use Rattle.chunk.specs.declared.Header.{Header}
 use Rattle.chunk.specs.declared.TrueSize.{TrueSize}
-use Rattle.chunk.specs.Refusals.{Answer, given}
+use Rattle.chunk.specs.Refusals.{Answer, Ok}
 use Rattle.chunk.specs.Walks.{Rule, past}
 use Rattle.chunk.specs.Code.{HeaderAt, found_as, step_on}
 use Rattle.chunk.proofs.Turns.{placed-ends, ends-past}
 use Rattle.truesize.specs.Sizes.{entries_of, ones_size, true_size}
 use Rattle.truesize.proofs.Ds64Entries.{true-stray, true-field, true-ones}
-use Rattle.truesize.proofs.Sizes.{other-placed, stray-placed, size-given, ones-only}
+use Rattle.truesize.proofs.Sizes.{other-placed, stray-placed}
 use Rattle.form.specs.declared.Head.{Head}
 use Rattle.chunk.specs.Names.{DS64}
 use Rattle.chunk.specs.Fields.{ONES}
-use Rattle.truesize.proofs.step.Goals.{then-h-eq-ONES+in-Known+else-len-place, else-h-eq-ONES}
+use Rattle.truesize.proofs.step.Goals.{then-h-eq-ONES+in-Ok, else-h-eq-ONES}
 use Rattle.truesize.proofs.step.Goals as goal
 
 -- the rule's answer at a header that was read
@@ -37,46 +37,31 @@ returns-then-h-eq-DS64 c =
     let p = c.requires in
     at-header _ p.1 (true-stray _ _ _ _ _ (stray-placed _ _ _ c.if-h-eq-DS64.true λ w e. omega (arith, p.0.later w, e)))
 
-pub returns-in_default : goal.returns-in_default
+pub returns-in-Err : goal.returns-in-Err
 unfolding found_as
-returns-in_default c =
+returns-in-Err c =
     at-header _ c.requires.1
-    (by-ds64 _ _ _ _ c.if-h-eq-DS64.false c.if-h-eq-ONES.true
-    ∙ ones-only _ _ _ _ (sym c.ones_size-given.ensures ∙ c.in_default.is))
+    (by-ds64 _ _ _ _ c.if-h-eq-DS64.false c.if-h-eq-ONES.true ∙ sym c.ones_size.ensures ∙ c.in-Err.is)
 
-pub returns-then-len-place : goal.returns-then-len-place
+pub returns-in-Ok-2 : goal.returns-in-Ok-2
 unfolding found_as past
-returns-then-len-place c =
+returns-in-Ok-2 c =
     sym (placed-ends _ _ (omega arith) ∙ ends-past _ _ _ (omega arith))
     ∙ at-header _ c.requires.1
     (by-ds64 _ _ _ _ c.if-h-eq-DS64.false c.if-h-eq-ONES.true
-    ∙ size-given _ _ (sym c.ones_size-given.ensures ∙ c.in-Known.is))
-
-pub found-requires : goal.found-requires
-found-requires c =
-    let p = c.requires in
-    record {
-      start = p.0.due.start;
-      whole = p.0.due.whole;
-      even = p.0.due.even;
-      small =
-          elim c.if-h-eq-ONES.branch [
-            | then-h-eq-ONES+in-Known+else-len-place w ↦ let b = ap (λ (t : TrueSize). t.bytes) w.size-is in omega (arith, b, w.if-len-place.false)
-            | else-h-eq-ONES w ↦ let b = ap (λ (t : TrueSize). t.bytes) (w.size-is ∙ c.own-size.ensures) in omega (arith, b, p.1.field_fits)
-          ];
-    }
+    ∙ sym c.ones_size.ensures ∙ c.in-Ok.is)
 
 pub returns : goal.returns
 unfolding found_as
 returns c =
-    let size : true_size c.args.head (entries_of c.args.head c.args.file.now) (c.args.place - 8) c.args.h.name c.args.h.field ≡ given c.if-h-eq-ONES.size =
+    let size : true_size c.args.head (entries_of c.args.head c.args.file.now) (c.args.place - 8) c.args.h.name c.args.h.field ≡ Ok c.if-h-eq-ONES.size =
     elim c.if-h-eq-ONES.branch [
-      | then-h-eq-ONES+in-Known+else-len-place w ↦
+      | then-h-eq-ONES+in-Ok w ↦
           by-ds64 _ _ _ _ c.if-h-eq-DS64.false w.if-h-eq-ONES.true
-          ∙ size-given _ _ (sym w.ones_size-given.ensures ∙ w.in-Known.is)
-          ∙ ap given (sym w.size-is)
+          ∙ sym w.ones_size.ensures ∙ w.in-Ok.is
+          ∙ ap Ok (sym w.size-is)
       | else-h-eq-ONES w ↦
           true-field _ _ _ _ _ (other-placed _ _ _ c.if-h-eq-DS64.false) w.if-h-eq-ONES.false
-          ∙ ap given (sym (w.size-is ∙ c.own-size.ensures))
+          ∙ ap Ok (sym (w.size-is ∙ w.own-size.ensures))
     ] in
     c.found.ensures ∙ at-header _ c.requires.1 size
