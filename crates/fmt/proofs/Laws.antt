@@ -1,9 +1,9 @@
 -- The laws of the rules of fmt: what follows where a rule holds.
 -- Assumes nothing.
 use mathlib.Core.Path.{◌≡◌, refl, sym, ap, ◌∙◌, subst}
-use mathlib.Core.Bool.{Bool, true, false, ◌||◌}
+use mathlib.Core.Bool.{Bool, true, false, ◌&&◌, ◌||◌}
 use mathlib.Core.List.{List, [], ◌∷◌, ◌++◌}
-use mathlib.Core.Logic.{◌⊎◌, inl, inr}
+use mathlib.Core.Logic.{◌⊎◌, inl, inr, ⊎_elim}
 use Prim.Native.Nat.{ℕ, ◌*◌, ◌/◌, ◌≤◌, ◌<◌}
 use native.Mathlib.Nat.{mul-le-mul}
 use native.Mathlib.Omega.{arith}
@@ -15,7 +15,7 @@ use Rattle.le.specs.Choice.{pick, every}
 use Rattle.le.proofs.Laws.{number_bound}
 use Rattle.chunk.specs.declared.Refusal.{Refusal}
 use Rattle.chunk.specs.declared.Refusal.TheVariants.{BadFmt}
-use Rattle.chunk.specs.Refusals.{Answer, refused, given, check}
+use Rattle.chunk.specs.Refusals.{Answer, Err, Ok, check}
 use Rattle.chunk.proofs.Checks.{true-false, check-given, check-refused, given-inj, refused-given, picked}
 use Rattle.fmt.specs.declared.Format.{Format}
 use Rattle.fmt.specs.Formats.{PCM, EXTENSIBLE, SUBFORMAT-LOW, SUBFORMAT-HIGH, size_good, bits_good, samples_good, valid_bits, valid_good, record_good, record_in, extra_good, format_in}
@@ -154,36 +154,7 @@ gathered p f e₀ e₁ e₂ e₃ e₄ e₅ e₆ e₇ e₈ = joined e₀ e₁ e�
 
 -- ---- payloads
 
-pub extra-bad : (p : List ℕ) → extra_good p ≡ false → format_in p ≡ refused BadFmt
-unfolding format_in
-extra-bad p e = simp e
-
-pub record-bad : (p : List ℕ) → record_good (record_in p) ≡ false → format_in p ≡ refused BadFmt
-unfolding format_in
-record-bad p e = rw e (cases (extra_good p))
-  where
-    cases : (b : Bool) → pick {X = Answer Format} b (refused BadFmt) (refused BadFmt) ≡ refused BadFmt
-    cases true = refl
-    cases false = refl
-
--- there is no other refusal
-pub only-bad : (p : List ℕ) (r : Refusal) → format_in p ≡ refused r → r ≡ BadFmt
-unfolding format_in
-only-bad p r e = first (check-refused (extra_good p) BadFmt _ r e)
-  where
-    second : (r ≡ BadFmt) ⊎ (given (record_in p) ≡ refused r) → r ≡ BadFmt
-    second (inl q) = q
-    second (inr q) = absurd (refused-given r (record_in p) (sym q))
-
-    first : (r ≡ BadFmt) ⊎ (check (record_good (record_in p)) BadFmt (given (record_in p)) ≡ refused r) → r ≡ BadFmt
-    first (inl q) = q
-    first (inr q) = second (check-refused (record_good (record_in p)) BadFmt (given (record_in p)) r q)
-
-pub short : (p : List ℕ) → length p < 16 → format_in p ≡ refused BadFmt
-unfolding record_good record_in
-short p h = record-bad p (simp (size-short (record_in p).tag (length p) h))
-
-pub accepted : (p : List ℕ) → extra_good p ≡ true → record_good (record_in p) ≡ true → format_in p ≡ given (record_in p)
+pub accepted : (p : List ℕ) → extra_good p ≡ true → record_good (record_in p) ≡ true → format_in p ≡ Ok (record_in p)
 unfolding format_in
 accepted p e r = simp (e, r)
 
@@ -198,60 +169,53 @@ pub rest-18 : (p : List ℕ) → length p ≡ 18 → eqb (number 2 16 p) 0 ≡ r
 unfolding rest_good extra_good valid_good record_in
 rest-18 p e = rw e (last _)
 
-module _ (p : List ℕ) (f : Format) (long : length p ≡ 40) (size : f.size ≡ 40) where
-  pub rest-extra : (number 2 16 p ≡ 22 → ⊥) → false ≡ rest_good p f
-  unfolding rest_good extra_good
-  rest-extra n = simp (long, ne_eqb _ _ n)
+pub rest-40 : (p : List ℕ) (f : Format) → length p ≡ 40 → f.size ≡ 40
+    → rest_good p f
+    ≡ eqb (number 2 16 p) 22 && eqb (number 8 24 p) SUBFORMAT-LOW && eqb (number 8 32 p) SUBFORMAT-HIGH && valid_bits f.bits f.valid
+unfolding rest_good extra_good valid_good every pick
+rest-40 p f long size =
+    simp (long, size) (joined (eqb (number 2 16 p) 22) (eqb (number 8 24 p) SUBFORMAT-LOW) (eqb (number 8 32 p) SUBFORMAT-HIGH) (valid_bits f.bits f.valid))
+  where
+    joined : (a b c v : Bool) → pick (pick a (pick b (pick c true false) false) false) (pick v true false) false ≡ a && b && c && v
+    joined false b c v = refl
+    joined true false c v = refl
+    joined true true false v = refl
+    joined true true true false = refl
+    joined true true true true = refl
 
-  module _ (extra : number 2 16 p ≡ 22) where
-    pub rest-low : (number 8 24 p ≡ SUBFORMAT-LOW → ⊥) → false ≡ rest_good p f
-    unfolding rest_good extra_good
-    rest-low n = simp (long, extra, ne_eqb _ _ n)
+-- the rules in the order in which the code asks: a payload of 16 bytes keeps the rest
+pub by_rules : (p : List ℕ) (f : Format) → f ≡ record_in p
+    → format_in p
+    ≡ check (size_good f.tag f.size && samples_good f.channels f.rate f.block f.bits && (eqb f.size 16 || rest_good p f)) BadFmt (Ok f)
+unfolding format_in check record_in record_good rest_good every pick
+by_rules p f is =
+    rw is
+    (joined (Ok (record_in p)) (extra_good p) (size_good (record_in p).tag (length p)) (samples_good (record_in p).channels (record_in p).rate (record_in p).block (record_in p).bits)
+    (valid_good (length p) (record_in p).bits (record_in p).valid (record_in p).mask) (eqb (length p) 16) (λ h. rest-16 p (eqb-true _ _ h)))
+  where
+    joined : (k : Answer Format) (extra sized sampled valid short : Bool) → (short ≡ true → pick extra (pick valid true false) false ≡ true)
+        → pick extra (pick (pick sized (pick sampled (pick valid true false) false) false) k (Err BadFmt)) (Err BadFmt)
+        ≡ pick (sized && sampled && (short || pick extra (pick valid true false) false)) k (Err BadFmt)
+    joined k true false c v s h = refl
+    joined k true true false v s h = refl
+    joined k true true true true false h = refl
+    joined k true true true true true h = refl
+    joined k true true true false false h = refl
+    joined k true true true false true h = absurd (true-false false (h refl) refl)
+    joined k false false c v s h = refl
+    joined k false true false v s h = refl
+    joined k false true true v false h = refl
+    joined k false true true v true h = absurd (true-false false (h refl) refl)
 
-    module _ (low : number 8 24 p ≡ SUBFORMAT-LOW) where
-      pub rest-high : (number 8 32 p ≡ SUBFORMAT-HIGH → ⊥) → false ≡ rest_good p f
-      unfolding rest_good extra_good
-      rest-high n = simp (long, extra, low, ne_eqb _ _ n)
+-- there is no other refusal
+pub only-bad : (p : List ℕ) (r : Refusal) → format_in p ≡ Err r → r ≡ BadFmt
+only-bad p r e =
+    ⊎_elim (λ q. q) (λ q. absurd (refused-given r (record_in p) (sym q)))
+    (check-refused _ BadFmt (Ok (record_in p)) r (sym (by_rules p (record_in p) refl) ∙ e))
 
-      module _ (high : number 8 32 p ≡ SUBFORMAT-HIGH) where
-        pub rest-valid : valid_bits f.bits f.valid ≡ rest_good p f
-        unfolding rest_good extra_good valid_good
-        rest-valid = simp (long, extra, low, high, size) (last _)
-
-module _ (p : List ℕ) (f : Format) (is : f ≡ record_in p) where
-  pub size-bad : size_good f.tag f.size ≡ false → format_in p ≡ refused BadFmt
-  unfolding record_good
-  size-bad e = record-bad p (ap record_good (sym is) ∙ simp e)
-
-  pub samples-bad : samples_good f.channels f.rate f.block f.bits ≡ false → format_in p ≡ refused BadFmt
-  unfolding record_good
-  samples-bad e = record-bad p (ap record_good (sym is) ∙ rw e (cases (size_good f.tag f.size)))
-    where
-      cases : (b : Bool) → pick b false false ≡ false
-      cases true = refl
-      cases false = refl
-
-  pub rest-bad : rest_good p f ≡ false → format_in p ≡ refused BadFmt
-  unfolding rest_good record_good
-  rest-bad e = go (extra_good p) refl (valid_good f.size f.bits f.valid f.mask) refl
-    where
-      none : (a b : Bool) → pick a (pick b false false) false ≡ false
-      none true true = refl
-      none true false = refl
-      none false b = refl
-
-      go : (x : Bool) → extra_good p ≡ x → (v : Bool) → valid_good f.size f.bits f.valid f.mask ≡ v → format_in p ≡ refused BadFmt
-      go false x v y = extra-bad p x
-      go true x false y =
-          record-bad p (ap record_good (sym is) ∙ rw y (none (size_good f.tag f.size) (samples_good f.channels f.rate f.block f.bits)))
-      go true x true y = absurd (true-false (rest_good p f) (every_of (_ ∷ _ ∷ []) (x, (y, tt))) e)
-
-  pub all-good : size_good f.tag f.size ≡ true → samples_good f.channels f.rate f.block f.bits ≡ true → rest_good p f ≡ true
-      → format_in p ≡ given f
-  unfolding rest_good record_good
-  all-good s m e =
-      let k = all (extra_good p ∷ valid_good f.size f.bits f.valid f.mask ∷ []) e in
-      accepted p k.0 (ap record_good (sym is) ∙ every_of (_ ∷ _ ∷ _ ∷ []) (s, (m, (k.1.0, tt)))) ∙ ap given (sym is)
+pub short : (p : List ℕ) → length p < 16 → format_in p ≡ Err BadFmt
+unfolding record_in check pick
+short p h = by_rules p (record_in p) refl ∙ rw (size-short (record_in p).tag (length p) h) refl
 
 -- ---- what callers use of an accepted payload
 
@@ -261,17 +225,17 @@ pub record Holds (p : List ℕ) (f : Format) : Type 0 where
   pub extra : extra_good p ≡ true
   pub rules : record_good f ≡ true
 
-pub format-given : (p : List ℕ) (f : Format) → format_in p ≡ given f → Holds p f
+pub format-given : (p : List ℕ) (f : Format) → format_in p ≡ Ok f → Holds p f
 unfolding format_in
 format-given p f h =
-    let k = check-given (extra_good p) BadFmt (check (record_good (record_in p)) BadFmt (given (record_in p))) f h in
-    let l = check-given (record_good (record_in p)) BadFmt (given (record_in p)) f k.1 in
+    let k = check-given (extra_good p) BadFmt (check (record_good (record_in p)) BadFmt (Ok (record_in p))) f h in
+    let l = check-given (record_good (record_in p)) BadFmt (Ok (record_in p)) f k.1 in
     let e = given-inj (record_in p) f l.1 in
     record { is = sym e; extra = k.0; rules = ap record_good (sym e) ∙ l.0 }
 
-pub given-format : (p : List ℕ) (f : Format) → Holds p f → format_in p ≡ given f
+pub given-format : (p : List ℕ) (f : Format) → Holds p f → format_in p ≡ Ok f
 given-format p f h =
-    accepted p h.extra (ap record_good (sym h.is) ∙ h.rules) ∙ ap given (sym h.is)
+    accepted p h.extra (ap record_good (sym h.is) ∙ h.rules) ∙ ap Ok (sym h.is)
 
 -- the rules of the samples
 pub record Samples (channels rate block bits : ℕ) : Type 0 where
@@ -292,7 +256,7 @@ samples n r b w h =
     }
 
 -- a block is at least one byte
-pub block-least : (p : List ℕ) (f : Format) → format_in p ≡ given f → 1 ≤ f.block
+pub block-least : (p : List ℕ) (f : Format) → format_in p ≡ Ok f → 1 ≤ f.block
 block-least p f h =
     let s = samples _ _ _ _ (good f (format-given p f h).rules).samples in
     let w : 8 ≤ f.bits = (bits_range _ s.bits_good).0 in
@@ -323,11 +287,11 @@ bounds-in p b =
       mask = picked (λ (n : ℕ). n < 4294967296) (eqb (length p) 40) _ _ (λ e. number_bound 4 20 p b) (λ e. lit< tt);
     }
 
-pub bounds : (p : List ℕ) (f : Format) → Bytes p → format_in p ≡ given f → Bounds f
+pub bounds : (p : List ℕ) (f : Format) → Bytes p → format_in p ≡ Ok f → Bounds f
 bounds p f b h = subst Bounds (sym (format-given p f h).is) (bounds-in p b)
 
 -- its size is the payload's length: 16, 18 or 40
-pub size_is : (p : List ℕ) (f : Format) → format_in p ≡ given f → f.size ≡ length p
+pub size_is : (p : List ℕ) (f : Format) → format_in p ≡ Ok f → f.size ≡ length p
 unfolding record_in
 size_is p f h = ap (λ (g : Format). g.size) (format-given p f h).is
 

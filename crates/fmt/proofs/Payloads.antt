@@ -15,8 +15,7 @@ use borrow.Author.Tests.{eq-eqb, eqb-true}
 use Rattle.le.specs.Number.{bytes}
 use Rattle.le.proofs.Laws.{sets-append}
 use Rattle.chunk.specs.declared.Refusal.TheVariants.{BadRecord, ShortOutput}
-use Rattle.chunk.specs.declared.Written.TheVariants as written
-use Rattle.chunk.specs.Refusals.{given}
+use Rattle.chunk.specs.Refusals.{Ok, Err}
 use Rattle.chunk.specs.Writes.{fitting, output_of, Writes}
 use Rattle.chunk.proofs.Checks.{check-true, check-false, check-given, given-inj}
 use Rattle.chunk.proofs.Outputs.{puts-front, no_room, room, refuses, lacks-room, writes}
@@ -38,21 +37,21 @@ long-all f = omega (arith, length-append (head_bytes f) (extra_bytes f), head-le
 pub long-16 : (f : Format) → (f.size ≡ 18 → ⊥) → (f.size ≡ 40 → ⊥) → length (format_bytes f) ≡ 16
 long-16 f h k = omega (arith, long-all f, ap length (extra-16 f h k))
 
-pub long-18 : (f : Format) → f.size ≡ 18 → length (format_bytes f) ≡ 18
+pub long_18 : (f : Format) → f.size ≡ 18 → length (format_bytes f) ≡ 18
 unfolding bytes
-long-18 f e = omega (arith, long-all f, ap length (extra-18 f e))
+long_18 f e = omega (arith, long-all f, ap length (extra-18 f e))
 
-pub long-40 : (f : Format) → f.size ≡ 40 → length (format_bytes f) ≡ 40
+pub long_40 : (f : Format) → f.size ≡ 40 → length (format_bytes f) ≡ 40
 unfolding bytes
-long-40 f e = omega (arith, long-all f, ap length (extra-40 f e))
+long_40 f e = omega (arith, long-all f, ap length (extra-40 f e))
 
 pub payload-length : (f : Format) → record_good f ≡ true → length (format_bytes f) ≡ f.size
 payload-length f h = cases (size-cases _ _ (good f h).size)
   where
     cases : (f.size ≡ 16) ⊎ ((f.size ≡ 18) ⊎ (f.size ≡ 40)) → length (format_bytes f) ≡ f.size
     cases (inl e) = long-16 f (omega arith) (omega arith) ∙ sym e
-    cases (inr (inl e)) = long-18 f e ∙ sym e
-    cases (inr (inr e)) = long-40 f e ∙ sym e
+    cases (inr (inl e)) = long_18 f e ∙ sym e
+    cases (inr (inr e)) = long_40 f e ∙ sym e
 
 -- ---- records that can be written
 
@@ -74,25 +73,25 @@ writable-of f h =
     (fields_fit f ∷ record_good f ∷ eqb f.byterate (f.rate * f.block) ∷ [])
     (fits-of f h.fit, (h.good, (eq-eqb _ _ h.product, tt)))
 
-pub out-given : (f : Format) (bs : List ℕ) → format_out f ≡ given bs → (writable f ≡ true) × (bs ≡ format_bytes f)
+pub out-given : (f : Format) (bs : List ℕ) → format_out f ≡ Ok bs → (writable f ≡ true) × (bs ≡ format_bytes f)
 unfolding format_out
 out-given f bs h =
-    let k = check-given (writable f) BadRecord (given (format_bytes f)) bs h in
+    let k = check-given (writable f) BadRecord (Ok (format_bytes f)) bs h in
     (k.0, sym (given-inj (format_bytes f) bs k.1))
 
-pub out_of : (f : Format) → writable f ≡ true → format_out f ≡ given (format_bytes f)
+pub out_of : (f : Format) → writable f ≡ true → format_out f ≡ Ok (format_bytes f)
 unfolding format_out
-out_of f h = check-true (writable f) BadRecord (given (format_bytes f)) h
+out_of f h = check-true (writable f) BadRecord (Ok (format_bytes f)) h
 
 -- ---- what is stored
 
 module _ (f : Format) (s : List ℕ) where
-  pub stores-none : length s < length (format_bytes f) → s ≡ output_of s (fitting s (given (format_bytes f)))
+  pub stores-none : length s < length (format_bytes f) → s ≡ output_of s (fitting s (Ok (format_bytes f)))
   unfolding output_of
   stores-none h = sym (ap (output_of s) (no_room (format_bytes f) s h))
 
   pub stores-all : (t : List ℕ) → length (format_bytes f) ≤ length s → t ≡ sets (sets s 0 (head_bytes f)) 16 (extra_bytes f)
-      → t ≡ output_of s (fitting s (given (format_bytes f)))
+      → t ≡ output_of s (fitting s (Ok (format_bytes f)))
   unfolding output_of format_bytes
   stores-all t h e =
       e
@@ -103,19 +102,19 @@ module _ (f : Format) (s : List ℕ) where
 
 -- ---- what the writer answers and leaves
 
-pub refuse16 : (f : Format) (s : List ℕ) → writable f ≡ false → Writes (format_out f) s s (written.Refused BadRecord)
+pub refuse16 : (f : Format) (s : List ℕ) → writable f ≡ false → Writes (format_out f) s s (Err BadRecord)
 unfolding format_out
-refuse16 f s h = refuses (format_out f) s BadRecord (check-false (writable f) BadRecord (given (format_bytes f)) h)
+refuse16 f s h = refuses (format_out f) s BadRecord (check-false (writable f) BadRecord (Ok (format_bytes f)) h)
 
 module _ (f : Format) (s : List ℕ) (can : writable f ≡ true) where
   long : length (format_bytes f) ≡ f.size
   long = payload-length f (writable-true f can).good
 
-  pub refuse15 : length s < f.size → Writes (format_out f) s s (written.Refused ShortOutput)
+  pub refuse15 : length s < f.size → Writes (format_out f) s s (Err ShortOutput)
   refuse15 h = lacks-room (format_out f) s (format_bytes f) (out_of f can) (omega (arith, long))
 
-  pub wrote : (t : List ℕ) → f.size ≤ length s → t ≡ output_of s (fitting s (given (format_bytes f)))
-      → Writes (format_out f) s t (written.Bytes f.size)
+  pub wrote : (t : List ℕ) → f.size ≤ length s → t ≡ output_of s (fitting s (Ok (format_bytes f)))
+      → Writes (format_out f) s t (Ok f.size)
   unfolding output_of
   wrote t h e =
       writes (format_out f) s (format_bytes f) (out_of f can) t f.size (sym long) h

@@ -13,8 +13,7 @@ use borrow.Author.Tests.{eq-eqb, eqb-true}
 use Rattle.le.specs.Number.{Bytes, value, bytes, field, number}
 use Rattle.le.proofs.Laws.{value-bytes, number-then, Bytes-bytes, Bytes-append}
 use Rattle.chunk.specs.declared.Refusal.{Refusal}
-use Rattle.chunk.specs.declared.Written.TheVariants as written
-use Rattle.chunk.specs.Refusals.{given}
+use Rattle.chunk.specs.Refusals.{Ok, Err}
 use Rattle.chunk.specs.Writes.{Writes}
 use Rattle.chunk.proofs.Checks.{given-inj, picked}
 use Rattle.chunk.proofs.Outputs.{wrote, refusal-keeps}
@@ -139,17 +138,17 @@ module _ (f : Format) (w : Writable f) where
       cases (inr (inr e)) = record { is = long-is e; extra = long-extra e; rules = w.good }
 
 -- what is written is read back as the record given
-pub reads-back : (f : Format) (bs : List ℕ) → format_out f ≡ given bs → format_in bs ≡ given f
+pub reads-back : (f : Format) (bs : List ℕ) → format_out f ≡ Ok bs → format_in bs ≡ Ok f
 reads-back f bs h =
     let k = out-given f bs h in
     ap format_in k.1 ∙ given-format (format_bytes f) f (holds f (writable-true f k.0))
 
 -- so is what the writer leaves at the start of its output
-pub output-reads-back : (f : Format) (s t : List ℕ) (n : ℕ) → Writes (format_out f) s t (written.Bytes n) → format_in (take n t) ≡ given f
+pub output-reads-back : (f : Format) (s t : List ℕ) (n : ℕ) → Writes (format_out f) s t (Ok n) → format_in (take n t) ≡ Ok f
 output-reads-back f s t n h = reads-back f (take n t) (wrote (format_out f) s t n h).is_given
 
 -- a refusal changes no byte
-pub refusal-changes-nothing : (f : Format) (s t : List ℕ) (r : Refusal) → Writes (format_out f) s t (written.Refused r) → t ≡ s
+pub refusal-changes-nothing : (f : Format) (s t : List ℕ) (r : Refusal) → Writes (format_out f) s t (Err r) → t ≡ s
 refusal-changes-nothing f = refusal-keeps (format_out f)
 
 -- ---- read, then written
@@ -213,7 +212,7 @@ least t s h = cases (size-cases t s h)
     cases (inr (inr e)) = omega arith
 
 -- the payload of the record that was read is the payload
-pub payload-again : (p : List ℕ) (f : Format) → Bytes p → format_in p ≡ given f → format_bytes f ≡ p
+pub payload-again : (p : List ℕ) (f : Format) → Bytes p → format_in p ≡ Ok f → format_bytes f ≡ p
 unfolding format_bytes
 payload-again p f b h =
     let k = format-given p f h in
@@ -228,7 +227,7 @@ payload-again p f b h =
     cases x (inr (inl l)) = again-18 p b x l
     cases x (inr (inr l)) = again-40 p b x l
 
-could-write : (p : List ℕ) (f : Format) → Bytes p → format_in p ≡ given f → f.byterate ≡ f.rate * f.block → writable f ≡ true
+could-write : (p : List ℕ) (f : Format) → Bytes p → format_in p ≡ Ok f → f.byterate ≡ f.rate * f.block → writable f ≡ true
 could-write p f b h e =
     let k = bounds p f b h in
     writable-of f
@@ -246,15 +245,15 @@ could-write p f b h e =
     })
 
 -- reading then writing gives the same bytes where bytes a second are rate times block
-pub writes-back : (p : List ℕ) (f : Format) → Bytes p → format_in p ≡ given f → f.byterate ≡ f.rate * f.block
-    → format_out f ≡ given p
-writes-back p f b h e = out_of f (could-write p f b h e) ∙ ap given (payload-again p f b h)
+pub writes-back : (p : List ℕ) (f : Format) → Bytes p → format_in p ≡ Ok f → f.byterate ≡ f.rate * f.block
+    → format_out f ≡ Ok p
+writes-back p f b h e = out_of f (could-write p f b h e) ∙ ap Ok (payload-again p f b h)
 
 -- an accepted payload has one record, and a record one payload
-pub one-record : (p : List ℕ) (f g : Format) → format_in p ≡ given f → format_in p ≡ given g → f ≡ g
+pub one-record : (p : List ℕ) (f g : Format) → format_in p ≡ Ok f → format_in p ≡ Ok g → f ≡ g
 one-record p f g h k = given-inj f g (sym h ∙ k)
 
-pub one-payload : (p q : List ℕ) (f : Format) → Bytes p → Bytes q → format_in p ≡ given f → format_in q ≡ given f → p ≡ q
+pub one-payload : (p q : List ℕ) (f : Format) → Bytes p → Bytes q → format_in p ≡ Ok f → format_in q ≡ Ok f → p ≡ q
 one-payload p q f bp bq h k = sym (payload-again p f bp h) ∙ payload-again q f bq k
 
 -- ---- what can be written
@@ -263,7 +262,7 @@ one-payload p q f bp bq h k = sym (payload-again p f bp h) ∙ payload-again q f
 pub record ReadFrom (f : Format) : Type 0 where
   pub payload : List ℕ
   pub all_bytes : Bytes payload
-  pub is_read : format_in payload ≡ given f
+  pub is_read : format_in payload ≡ Ok f
 
 -- a number's bytes in front of bytes
 after : (n v : ℕ) (r : List ℕ) → Bytes r → Bytes (bytes n v ++ r)

@@ -3,10 +3,8 @@ use Rattle.std.specs.Prelude.{ℕ, ◌*◌, ◌/◌, Bool, true, false, ◌||◌
 use Rattle.le.specs.Number.{number}
 use Rattle.le.specs.Choice.{pick, every}
 use Rattle.chunk.specs.declared.Refusal.TheVariants.{BadFmt}
-use Rattle.chunk.specs.Refusals.{refusal_number, Answer, refused, given, check}
+use Rattle.chunk.specs.Refusals.{Answer, Err, Ok, check}
 use Rattle.fmt.specs.declared.Format.{Format}
-use Rattle.fmt.specs.declared.Reading.{Reading}
-use Rattle.fmt.specs.declared.Reading.TheVariants as reading
 
 abbrev pub PCM : ℕ
 PCM = 1
@@ -86,19 +84,10 @@ extra_good p =
 -- the record that a payload holds, or 11
 unfoldable pub format_in : List ℕ → Answer Format
 unfolding check
-format_in p = check (extra_good p) BadFmt (check (record_good (record_in p)) BadFmt (given (record_in p)))
+format_in p = check (extra_good p) BadFmt (check (record_good (record_in p)) BadFmt (Ok (record_in p)))
 
--- the reader's answer
-unfoldable pub read_as : Answer Format → Reading
-read_as (refused r) = reading.Refused r
-read_as (given f) = reading.Record f
-
--- its number, 0 where nothing is refused, and its values: the record's nine, or zeros
-unfoldable pub fmt_number : Reading → ℕ
-fmt_number (reading.Record f) = 0
-fmt_number (reading.Refused r) = refusal_number r
-
-unfoldable pub fmt_values : Reading → List ℕ
-fmt_values (reading.Record f) =
+-- its values, as a C caller has them: the record's nine, or zeros
+unfoldable pub fmt_values : Answer Format → List ℕ
+fmt_values (Ok f) =
     f.size ∷ f.tag ∷ f.channels ∷ f.rate ∷ f.byterate ∷ f.block ∷ f.bits ∷ f.valid ∷ f.mask ∷ []
-fmt_values (reading.Refused r) = replicate 9 0
+fmt_values (Err r) = replicate 9 0

@@ -3,7 +3,7 @@ use Rattle.std.specs.Prelude.{ℕ, ◌*◌, Bool, List, [], ◌∷◌, ◌++◌,
 use Rattle.le.specs.Number.{bytes}
 use Rattle.le.specs.Choice.{pick, every}
 use Rattle.chunk.specs.declared.Refusal.TheVariants.{BadRecord}
-use Rattle.chunk.specs.Refusals.{Answer, given, check}
+use Rattle.chunk.specs.Refusals.{Answer, Ok, check}
 use Rattle.fmt.specs.declared.Format.{Format}
 use Rattle.fmt.specs.Formats.{SUBFORMAT-LOW, SUBFORMAT-HIGH, record_good}
 
@@ -45,4 +45,4 @@ writable f = every (fields_fit f ∷ record_good f ∷ eqb f.byterate (f.rate * 
 -- the payload to write, or 16
 unfoldable pub format_out : Format → Answer (List ℕ)
 unfolding check
-format_out f = check (writable f) BadRecord (given (format_bytes f))
+format_out f = check (writable f) BadRecord (Ok (format_bytes f))

@@ -10,8 +10,8 @@ pub returns-then-not-is_writable : goal.returns-then-not-is_writable
 returns-then-not-is_writable c =
     refuse16 _ _ (sym c.is_writable.ensures ∙ c.if-not-is_writable.true)
 
-pub returns-then-out-size : goal.returns-then-out-size
-returns-then-out-size c =
+pub returns-then-out-format : goal.returns-then-out-format
+returns-then-out-format c =
     let can : writable c.args.format ≡ true = sym c.is_writable.ensures ∙ c.if-not-is_writable.false in
     refuse15 _ _ can (omega arith)
 

@@ -1,4 +1,4 @@
--- `fmt::store` meets its contract: nothing, or the first 16 bytes and what follows them.
+-- `fmt::Format::store` meets its contract: nothing, or the first 16 bytes and what follows them.
 use mathlib.Core.Path.{◌∙◌, ap}
 use mathlib.Core.List.{List}
 use Prim.Native.Nat.{ℕ}
@@ -6,7 +6,7 @@ use native.Mathlib.Omega.{arith}
 use lib.Seq.{sets}
 use Rattle.fmt.specs.Writing.{extra_bytes}
 use Rattle.fmt.proofs.Payloads.{long-all, stores-none, stores-all}
-use Rattle.fmt.proofs.store.Goals as goal
+use Rattle.fmt.proofs.Format.store.Goals as goal
 
 pub returns-then-out-payload_length : goal.returns-then-out-payload_length
 returns-then-out-payload_length c =
@@ -14,11 +14,11 @@ returns-then-out-payload_length c =
 
 pub store_head-requires : goal.store_head-requires
 store_head-requires c =
-    omega (arith, c.payload_length.ensures, long-all c.args.format)
+    omega (arith, c.payload_length.ensures, long-all c.args.self)
 
 pub returns : goal.returns
 returns c =
     stores-all _ _ _ (omega (arith, c.payload_length.ensures))
     (c.store_extra.ensures
-    ∙ ap (λ (l : List ℕ). sets l 16 (extra_bytes c.args.format))
+    ∙ ap (λ (l : List ℕ). sets l 16 (extra_bytes c.args.self))
     c.store_head.ensures)

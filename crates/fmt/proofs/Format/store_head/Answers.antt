@@ -1,4 +1,4 @@
--- `fmt::store_head` meets its contract: six stores, each where the one before it ends.
+-- `fmt::Format::store_head` meets its contract: six stores, each where the one before it ends.
 use mathlib.Core.Path.{◌≡◌, ◌∙◌, ap, sym}
 use mathlib.Core.List.{List}
 use Prim.Native.Nat.{ℕ}
@@ -7,7 +7,7 @@ use Rattle.le.specs.Number.{stored}
 use Rattle.le.proofs.Laws.{stored-then}
 use Rattle.fmt.specs.declared.Format.{Format}
 use Rattle.fmt.specs.Writing.{head_bytes}
-use Rattle.fmt.proofs.store_head.Goals as goal
+use Rattle.fmt.proofs.Format.store_head.Goals as goal
 
 laid : (f : Format) (s : List ℕ)
     → sets s 0 (head_bytes f)
@@ -24,14 +24,14 @@ laid f s =
 
 pub returns : goal.returns
 returns c =
-    let f = c.args.format in
-    c.store2-4.ensures
+    let f = c.args.self in
+    c.store-6.ensures
     ∙ ap (stored 2 14 f.bits)
-    (c.store2-3.ensures
+    (c.store-5.ensures
     ∙ ap (stored 2 12 f.block)
-    (c.store4-2.ensures
+    (c.store-4.ensures
     ∙ ap (stored 4 8 f.byterate)
-    (c.store4.ensures
+    (c.store-3.ensures
     ∙ ap (stored 4 4 f.rate)
-    (c.store2-2.ensures ∙ ap (stored 2 2 f.channels) c.store2.ensures))))
+    (c.store-2.ensures ∙ ap (stored 2 2 f.channels) c.store.ensures))))
     ∙ sym (laid f _)
