@@ -3,25 +3,31 @@
 use mathlib.Core.Path.{◌≡◌, refl, sym, ap, ◌∙◌}
 use mathlib.Core.Bool.{Bool, true, false}
 use mathlib.Core.List.{List, [], ◌++◌, append_assoc}
-use Prim.Native.Nat.{ℕ, ◌+◌, ◌≤◌, ◌<◌}
+use Prim.Native.Nat.{ℕ, ◌+◌, ◌≤◌}
 use native.Mathlib.Omega.{arith}
 use lib.ListN.{length, take, drop, take-append-drop}
 use lib.Seq.{take_at, take-length}
 use lib.Dec.{leb}
-use borrow.Author.Tests.{le-leb, lt-leb, leb-true}
+use borrow.Author.Tests.{leb-true}
 use Rattle.le.specs.Number.{field}
 use Rattle.le.specs.Choice.{pick, every}
 use Rattle.le.proofs.Laws.{field-length}
 use Rattle.chunk.specs.declared.Refusal.TheVariants.{BadBext}
-use Rattle.chunk.specs.Refusals.{given}
+use Rattle.chunk.specs.Refusals.{Ok}
 use Rattle.chunk.proofs.Checks.{check-given, given-inj, pick_true, rule_and}
 use Rattle.bext_parts.specs.Parts.{all_zero, text_of, set_of}
 use Rattle.bext_parts.proofs.Texts.{text-then}
 use Rattle.bext.specs.Records.{Whole, rules_of, whole_in, bext_in}
 use Rattle.bext.specs.Slices.{no_parts, parts_in, Stand}
 
--- a text is the start of what stands from its place on
-pub text-front : (n at : ℕ) (p : List ℕ) → take (length (text_of (field n at p))) (drop at p) ≡ text_of (field n at p)
+-- a text is the start of its bytes
+pub text-start : (s : List ℕ) → take (length (text_of s)) s ≡ text_of s
+text-start s =
+    let t : List ℕ = text_of s in
+    ap (take (length t)) (sym (text-then s)) ∙ take_at t (drop (length t) s) (length t) refl
+
+-- and of what stands from its place on
+text-front : (n at : ℕ) (p : List ℕ) → take (length (text_of (field n at p))) (drop at p) ≡ text_of (field n at p)
 unfolding field
 text-front n at p =
     let q : List ℕ = drop at p in
@@ -32,39 +38,19 @@ text-front n at p =
     ∙ append_assoc t (drop (length t) (take n q)) (drop n q))
     ∙ take_at t (drop (length t) (take n q) ++ drop n q) (length t) refl
 
--- ---- one part
-
-module _ (part : Whole → List ℕ) (p : List ℕ) where
-  -- of a payload of either length
-  pub part-is : part no_parts ≡ [] → pick (leb 602 (length p)) (part (whole_in p)) [] ≡ part (parts_in p)
-  unfolding parts_in pick
-  part-is none = cases (leb 602 (length p))
-    where
-      cases : (b : Bool) → pick b (part (whole_in p)) [] ≡ part (pick b (whole_in p) no_parts)
-      cases true = refl
-      cases false = sym none
-
-  pub short-part : part no_parts ≡ [] → length p < 602 → [] ≡ part (parts_in p)
-  unfolding parts_in pick
-  short-part none h = rw (lt-leb 602 (length p) h) (sym none)
-
-  pub long-part : 602 ≤ length p → part (whole_in p) ≡ part (parts_in p)
-  unfolding parts_in pick
-  long-part h = rw (le-leb 602 (length p) h)
-
 -- ---- an accepted payload
 
 -- the parts of an accepted payload are its record's fields
-pub parts_are : (p : List ℕ) (w : Whole) → bext_in p ≡ given w → parts_in p ≡ w
+pub parts_are : (p : List ℕ) (w : Whole) → bext_in p ≡ Ok w → parts_in p ≡ w
 unfolding bext_in rules_of every parts_in
 parts_are p w e =
-    let b = check-given (every (rules_of p)) BadBext (given (whole_in p)) w e in
+    let b = check-given (every (rules_of p)) BadBext (Ok (whole_in p)) w e in
     pick_true (leb 602 (length p)) (whole_in p) no_parts (rule_and _ _ b.0).0 ∙ given-inj (whole_in p) w b.1
 
-pub accepted-long : (p : List ℕ) (w : Whole) → bext_in p ≡ given w → 602 ≤ length p
+pub accepted-long : (p : List ℕ) (w : Whole) → bext_in p ≡ Ok w → 602 ≤ length p
 unfolding bext_in rules_of every
 accepted-long p w e =
-    let b = check-given (every (rules_of p)) BadBext (given (whole_in p)) w e in
+    let b = check-given (every (rules_of p)) BadBext (Ok (whole_in p)) w e in
     leb-true 602 (length p) (rule_and _ _ b.0).0
 
 -- ---- where the parts stand

@@ -1,13 +1,14 @@
 -- A record that could have been read: its rules one by one, that its parts fit their places, and the payload to write.
 -- Assumes nothing.
 use mathlib.Core.Path.{◌≡◌}
-use mathlib.Core.Bool.{Bool, true, false, ◌&&◌}
+use mathlib.Core.Bool.{true, false}
 use Prim.Native.Nat.{◌^◌}
+use native.Mathlib.Omega.{arith}
 use borrow.Author.Tests.{eqb-true}
 use lib.ListN.{length}
 use lib.Dec.{eqb, ltb}
 use Rattle.chunk.specs.declared.Refusal.TheVariants.{BadRecord}
-use Rattle.chunk.specs.Refusals.{refused, given}
+use Rattle.chunk.specs.Refusals.{Err, Ok}
 use Rattle.chunk.proofs.Checks.{and-true, check-true, check-false}
 use Rattle.bext_parts.specs.Parts.{text_good, date_good, time_good, rest_good, text_given, date_given, time_given, rest_given}
 use Rattle.bext_parts.proofs.Texts.{text-fits}
@@ -16,28 +17,7 @@ use Rattle.bext.specs.Records.{Whole}
 use Rattle.bext.specs.Writing.{writable, laid, bext_out}
 use Rattle.bext.specs.Code.{Fitting}
 
--- ---- the rules, as far as each of them
-
-abbrev pub good2 : Whole → Bool
-good2 w = ltb w.timeref (256 ^ 8) && text_given 256 w.description
-
-abbrev pub good3 : Whole → Bool
-good3 w = good2 w && text_given 32 w.originator
-
-abbrev pub good4 : Whole → Bool
-good4 w = good3 w && text_given 32 w.reference
-
-abbrev pub good5 : Whole → Bool
-good5 w = good4 w && date_given w.date
-
-abbrev pub good6 : Whole → Bool
-good6 w = good5 w && time_given w.time
-
-abbrev pub good7 : Whole → Bool
-good7 w = good6 w && ltb w.version (256 ^ 2)
-
-abbrev pub good8 : Whole → Bool
-good8 w = good7 w && rest_given w.version w.rest
+-- ---- the rules, one by one
 
 pub record Good (w : Whole) : Type 0 where
   pub timeref : ltb w.timeref (256 ^ 8) ≡ true
@@ -53,24 +33,16 @@ pub record Good (w : Whole) : Type 0 where
 pub good : (w : Whole) → writable w ≡ true → Good w
 unfolding writable
 good w e =
-    let e9 = and-true (good8 w) (text_good w.history) e in
-    let e8 = and-true (good7 w) (rest_given w.version w.rest) e9.0 in
-    let e7 = and-true (good6 w) (ltb w.version (256 ^ 2)) e8.0 in
-    let e6 = and-true (good5 w) (time_given w.time) e7.0 in
-    let e5 = and-true (good4 w) (date_given w.date) e6.0 in
-    let e4 = and-true (good3 w) (text_given 32 w.reference) e5.0 in
-    let e3 = and-true (good2 w) (text_given 32 w.originator) e4.0 in
-    let e2 = and-true (ltb w.timeref (256 ^ 8)) (text_given 256 w.description) e3.0 in
     record {
-      timeref = e2.0;
-      description = e2.1;
-      originator = e3.1;
-      reference = e4.1;
-      date = e5.1;
-      time = e6.1;
-      version = e7.1;
-      rest = e8.1;
-      history = e9.1;
+      timeref = grind arith;
+      description = grind arith;
+      originator = grind arith;
+      reference = grind arith;
+      date = grind arith;
+      time = grind arith;
+      version = grind arith;
+      rest = grind arith;
+      history = grind arith;
     }
 
 pub all-good : (w : Whole) → Good w → writable w ≡ true
@@ -92,12 +64,15 @@ good-fits w g =
       rest_fits = eqb-true (length w.rest) 254 (and-true (eqb (length w.rest) 254) (rest_good w.version w.rest) g.rest).0;
     }
 
+pub writable_fits : (w : Whole) → writable w ≡ true → Fitting w
+writable_fits w e = good-fits w (good w e)
+
 -- ---- the payload to write
 
-pub out-refused : (w : Whole) → writable w ≡ false → bext_out w ≡ refused BadRecord
+pub out-refused : (w : Whole) → writable w ≡ false → bext_out w ≡ Err BadRecord
 unfolding bext_out
-out-refused w e = check-false (writable w) BadRecord (given (laid w)) e
+out-refused w e = check-false (writable w) BadRecord (Ok (laid w)) e
 
-pub out-given : (w : Whole) → writable w ≡ true → bext_out w ≡ given (laid w)
+pub out-given : (w : Whole) → writable w ≡ true → bext_out w ≡ Ok (laid w)
 unfolding bext_out
-out-given w e = check-true (writable w) BadRecord (given (laid w)) e
+out-given w e = check-true (writable w) BadRecord (Ok (laid w)) e

@@ -2,8 +2,8 @@
 -- same bytes, and so an accepted payload has one record, and a record one payload.
 -- Assumes nothing.
 use mathlib.Core.Path.{◌≡◌, refl, sym, ap, ap₂, ◌∙◌}
-use mathlib.Core.Bool.{Bool, true, ◌||◌}
-use mathlib.Core.List.{List, ◌∷◌, ◌++◌, append_assoc}
+use mathlib.Core.Bool.{true, ◌||◌}
+use mathlib.Core.List.{List, ◌++◌, append_assoc}
 use Prim.Native.Nat.{ℕ, ◌+◌, ◌^◌, ◌≤◌}
 use native.Mathlib.Omega.{arith}
 use borrow.Author.Tests.{le-leb, leb-true, lt-ltb, ltb-true, eq-eqb}
@@ -14,11 +14,10 @@ use Rattle.le.specs.Number.{Bytes, bytes, field, number, value}
 use Rattle.le.specs.Choice.{every}
 use Rattle.le.proofs.Laws.{value-bytes, bytes-number, bytes-length, field-length, number_bound}
 use Rattle.chunk.specs.declared.Refusal.TheVariants.{BadBext, BadRecord}
-use Rattle.chunk.specs.declared.Written.TheVariants as written
-use Rattle.chunk.specs.Refusals.{given}
+use Rattle.chunk.specs.Refusals.{Ok}
 use Rattle.chunk.specs.Writes.{Writes}
 use Rattle.chunk.proofs.Outputs.{wrote}
-use Rattle.chunk.proofs.Checks.{given-inj, check-given, check-true, rule_and, and-true}
+use Rattle.chunk.proofs.Checks.{given-inj, check-given, check-true, and-true}
 use Rattle.bext_parts.specs.Parts.{all_zero, text_of, text_good, date_good, time_good, rest_good, text_given, date_given, time_given, rest_given, padded}
 use Rattle.bext_parts.proofs.Texts.{text-short, text-again, text-whole, padded-text, padded-good, text-back}
 use Rattle.bext_parts.proofs.Stamps.{Back, Forth, back, forth, date-set, time-set}
@@ -181,13 +180,13 @@ module _ (w : Whole) (g : Good w) where
         from9 w fits,
       )
 
-pub reads-back : (w : Whole) (p : List ℕ) → bext_out w ≡ given p → bext_in p ≡ given w
+pub reads-back : (w : Whole) (p : List ℕ) → bext_out w ≡ Ok p → bext_in p ≡ Ok w
 unfolding bext_out bext_in
 reads-back w p e =
-    let b = check-given (writable w) BadRecord (given (laid w)) p e in
+    let b = check-given (writable w) BadRecord (Ok (laid w)) p e in
     let g = good w b.0 in
     let q : laid w ≡ p = given-inj (laid w) p b.1 in
-    rw (← q) (check-true (every (rules_of (laid w))) BadBext (given (whole_in (laid w))) (rules-back w g) ∙ ap given (whole_back w g))
+    rw (← q) (check-true (every (rules_of (laid w))) BadBext (Ok (whole_in (laid w))) (rules-back w g) ∙ ap Ok (whole_back w g))
 
 -- ---- what is read is written back
 
@@ -207,30 +206,18 @@ record Rules (p : List ℕ) : Type 0 where
   rest : rest_good (number 2 346 p) (field 254 348 p) ≡ true
   history : text_good (drop 602 p) ≡ true
 
-every-cons : (b : Bool) (bs : List Bool) → every (b ∷ bs) ≡ true → (b ≡ true) × (every bs ≡ true)
-unfolding every
-every-cons b bs e = rule_and b (every bs) e
-
 rules : (p : List ℕ) → every (rules_of p) ≡ true → Rules p
-unfolding rules_of
+unfolding every rules_of
 rules p e =
-    let e1 = every-cons _ _ e in
-    let e2 = every-cons _ _ e1.1 in
-    let e3 = every-cons _ _ e2.1 in
-    let e4 = every-cons _ _ e3.1 in
-    let e5 = every-cons _ _ e4.1 in
-    let e6 = every-cons _ _ e5.1 in
-    let e7 = every-cons _ _ e6.1 in
-    let e8 = every-cons _ _ e7.1 in
     record {
-      long = e1.0;
-      description = e2.0;
-      originator = e3.0;
-      reference = e4.0;
-      date = e5.0;
-      time = e6.0;
-      rest = e7.0;
-      history = e8.0;
+      long = grind arith;
+      description = grind arith;
+      originator = grind arith;
+      reference = grind arith;
+      date = grind arith;
+      time = grind arith;
+      rest = grind arith;
+      history = grind arith;
     }
 
 -- the text of bytes is given as a text is to be
@@ -283,27 +270,27 @@ module _ (p : List ℕ) (bs : Bytes p) (r : Rules p) where
       let j8 = join 348 254 p _ (field 254 348 p) j7 refl in
       ap (λ l. l ++ drop 602 p) j8 ∙ take-append-drop 602 p
 
-pub writes-back : (p : List ℕ) → Bytes p → (w : Whole) → bext_in p ≡ given w → bext_out w ≡ given p
+pub writes-back : (p : List ℕ) → Bytes p → (w : Whole) → bext_in p ≡ Ok w → bext_out w ≡ Ok p
 unfolding bext_out bext_in
 writes-back p bs w e =
-    let b = check-given (every (rules_of p)) BadBext (given (whole_in p)) w e in
+    let b = check-given (every (rules_of p)) BadBext (Ok (whole_in p)) w e in
     let r = rules p b.0 in
     let q : whole_in p ≡ w = given-inj (whole_in p) w b.1 in
-    rw (← q) (check-true (writable (whole_in p)) BadRecord (given (laid (whole_in p))) (all-good (whole_in p) (good-forth p bs r)) ∙ ap given (laid-forth p bs r))
+    rw (← q) (check-true (writable (whole_in p)) BadRecord (Ok (laid (whole_in p))) (all-good (whole_in p) (good-forth p bs r)) ∙ ap Ok (laid-forth p bs r))
 
 -- ---- one record, one payload
 
 -- an accepted payload has exactly one record
-pub one-record : (p : List ℕ) (v w : Whole) → bext_in p ≡ given v → bext_in p ≡ given w → v ≡ w
+pub one-record : (p : List ℕ) (v w : Whole) → bext_in p ≡ Ok v → bext_in p ≡ Ok w → v ≡ w
 one-record p v w e f = given-inj v w (sym e ∙ f)
 
 -- two payloads of one record are the same bytes
-pub one-payload : (p q : List ℕ) → Bytes p → Bytes q → (w : Whole) → bext_in p ≡ given w → bext_in q ≡ given w → p ≡ q
+pub one-payload : (p q : List ℕ) → Bytes p → Bytes q → (w : Whole) → bext_in p ≡ Ok w → bext_in q ≡ Ok w → p ≡ q
 one-payload p q bp bq w e f = given-inj p q (sym (writes-back p bp w e) ∙ writes-back q bq w f)
 
 -- ---- what the writer leaves in its output
 
 -- the bytes that it says it wrote are a payload that reads back as the record given
-pub written-reads-back : (w : Whole) (entry exit : List ℕ) (n : ℕ) → Writes (bext_out w) entry exit (written.Bytes n)
-    → bext_in (take n exit) ≡ given w
+pub written-reads-back : (w : Whole) (entry exit : List ℕ) (n : ℕ) → Writes (bext_out w) entry exit (Ok n)
+    → bext_in (take n exit) ≡ Ok w
 written-reads-back w entry exit n wrote_it = reads-back w (take n exit) (wrote (bext_out w) entry exit n wrote_it).is_given

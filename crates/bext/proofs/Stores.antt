@@ -1,13 +1,16 @@
 -- The parts of a payload, one after the other: how long each is, and where the next one starts.
 -- Assumes nothing.
-use mathlib.Core.Path.{◌≡◌, refl, ap}
+use mathlib.Core.Path.{◌≡◌, refl, sym, ap, ◌∙◌}
 use mathlib.Core.List.{List, [], ◌∷◌, ◌++◌, append-nil}
 use Prim.Native.Nat.{ℕ, suc, ◌+◌, ◌-◌, ◌≤◌}
 use native.Mathlib.Omega.{arith}
-use lib.ListN.{length, replicate, length-append, length-replicate}
+use lib.ListN.{length, take, drop, replicate, length-append, length-replicate, length-drop}
+use lib.Seq.{sets, length-sets, take_at, drop_at, take-length, length-take-le}
+use Rattle.std.proofs.lemmas.List.{drop_all}
 use lib.Dec.{eqb-suc-zero}
 use Rattle.le.specs.Number.{bytes}
-use Rattle.le.proofs.Laws.{bytes-length}
+use Rattle.le.proofs.Laws.{bytes-length, part-set}
+use Rattle.chunk.proofs.Outputs.{puts-next}
 use Rattle.bext_parts.specs.Parts.{rest_of, padded}
 use Rattle.bext.specs.Records.{Whole}
 use Rattle.bext.specs.Writing.{laid}
@@ -88,3 +91,45 @@ module _ (w : Whole) (fit : Fitting w) where
   pub laid-length : length (laid w) ≡ 602 + length w.history
   unfolding laid
   laid-length = omega (arith, length-append (front8 w) w.history, length8)
+
+-- ---- how the parts are put
+
+over : (t place z : List ℕ) → length t ≤ length place
+    → z ≡ replicate (length (take (length (t ++ drop (length t) place) - length t) (drop (length t) (t ++ drop (length t) place)))) 0
+    → take (length t) (t ++ drop (length t) place)
+    ++ (z ++ drop (length (t ++ drop (length t) place) - length t) (drop (length t) (t ++ drop (length t) place)))
+    ≡ padded (length place) t
+unfolding padded
+over t place z h f =
+    let b : List ℕ = drop (length t) place in
+    let size : length (t ++ b) - length t ≡ length b = omega (arith, length-append t b) in
+    let left : drop (length t) (t ++ b) ≡ b = drop_at t b (length t) refl in
+    let zeros = rw (size, left, take-length b) at f in
+    let none : drop (length b) b ≡ [] = drop_all (length b) b (omega arith) in
+    rw (take_at t b (length t) refl, size, left, none, zeros, append-nil (replicate {A = ℕ} (length b) 0), length-drop (length t) place)
+
+-- a text over the start of its place, and zeros over what is left of it
+pub text-then-zeros : (t place x z : List ℕ) → length t ≤ length place → x ≡ t
+    → z ≡ replicate (length (take (length (x ++ drop (length t) place) - length t) (drop (length t) (x ++ drop (length t) place)))) 0
+    → take (length t) (x ++ drop (length t) place)
+    ++ (z ++ drop (length (x ++ drop (length t) place) - length t) (drop (length t) (x ++ drop (length t) place)))
+    ≡ padded (length place) t
+text-then-zeros t place x z h e f = let g = rw e at f in rw e (over t place z h g)
+
+-- a part put behind those before it
+pub put-part : (s o front z part : List ℕ) (at k : ℕ) → o ≡ sets s 0 front → length front ≡ at → z ≡ part → length part ≡ k
+    → at + k ≤ length s → take at o ++ (z ++ drop k (drop at o)) ≡ sets s 0 (front ++ part)
+put-part s o front z part at k q e f g h =
+    rw q (
+    part-set (sets s 0 front) z part at k f (sym g) (omega (arith, length-sets s 0 front))
+    ∙ puts-next s front part 0 at (omega arith)
+    )
+
+-- the same of a text
+pub put-text-part : (s o front z t : List ℕ) (at k : ℕ) → o ≡ sets s 0 front → length front ≡ at
+    → z ≡ padded (length (take k (drop at o))) t → length t ≤ k → at + k ≤ length s
+    → take at o ++ (z ++ drop k (drop at o)) ≡ sets s 0 (front ++ padded k t)
+put-text-part s o front z t at k q e f g h =
+    let same : length o ≡ length s = rw q (length-sets s 0 front) in
+    let size : length (take k (drop at o)) ≡ k = length-take-le k (drop at o) (omega (arith, length-drop at o)) in
+    put-part s o front z (padded k t) at k q e (f ∙ ap (λ (n : ℕ). padded n t) size) (padded-length k t g) h

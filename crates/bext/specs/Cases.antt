@@ -1,7 +1,7 @@
 -- The edges of bext's rules, on both sides: what keeps its rule, and what breaks it by one. proofs/Cases.antt computes it.
 use Rattle.std.specs.Prelude.{ℕ, Bool, true, false, not, List, [], ◌∷◌, ◌++◌, replicate, eqb}
 use Rattle.std.proofs.lemmas.List.Edits.{sets}
-use Rattle.chunk.specs.Refusals.{Answer, refused, given, refusal_number}
+use Rattle.chunk.specs.Refusals.{Answer, Err, Ok, refusal_number}
 use Rattle.bext_parts.specs.Parts.{text_good, date_good, time_good, rest_good}
 use Rattle.bext.specs.Records.{Whole, bext_in}
 
@@ -19,12 +19,12 @@ payload size at bs = sets (replicate size 0) at bs
 
 -- whether a payload is accepted, and where not, whether by 13
 unfoldable pub accepted : Answer Whole → Bool
-accepted (refused r) = false
-accepted (given w) = true
+accepted (Err r) = false
+accepted (Ok w) = true
 
 unfoldable pub refused_by13 : Answer Whole → Bool
-refused_by13 (refused r) = eqb (refusal_number r) 13
-refused_by13 (given w) = false
+refused_by13 (Err r) = eqb (refusal_number r) 13
+refused_by13 (Ok w) = false
 
 -- month 01 and 12, day 01 and 31; each separator; hours 00 and 24, minutes and seconds 59; texts; the bytes after Version
 unfoldable pub good : List Bool

@@ -3,11 +3,9 @@ use Rattle.std.specs.Prelude.{ℕ, Bool, true, false, not, ◌||◌, List, [], �
 use Rattle.le.specs.Number.{field, number}
 use Rattle.le.specs.Choice.{every}
 use Rattle.chunk.specs.declared.Refusal.TheVariants.{BadBext}
-use Rattle.chunk.specs.Refusals.{refusal_number, Answer, refused, given, check}
+use Rattle.chunk.specs.Refusals.{Answer, Err, Ok, check}
 use Rattle.bext_parts.specs.Parts.{all_zero, text_of, text_good, date_good, time_good, set_of, rest_good}
 use Rattle.bext.specs.declared.Bext.{Bext}
-use Rattle.bext.specs.declared.Reading.{Reading}
-use Rattle.bext.specs.declared.Reading.TheVariants as reading
 
 -- ---- the record
 
@@ -58,7 +56,7 @@ whole_in p =
 -- the record that a payload holds, or 13
 unfoldable pub bext_in : List ℕ → Answer Whole
 unfolding check
-bext_in p = check (every (rules_of p)) BadBext (given (whole_in p))
+bext_in p = check (every (rules_of p)) BadBext (Ok (whole_in p))
 
 -- the record by numbers: how long each text is, and whether date and time are set
 unfoldable pub numbers_of : Whole → Bext
@@ -75,21 +73,17 @@ numbers_of w =
     }
 
 -- what the reader answers
-unfoldable pub read_as : Answer Whole → Reading
-read_as (refused r) = reading.Refused r
-read_as (given w) = reading.Record (numbers_of w)
+unfoldable pub read_as : Answer Whole → Answer Bext
+read_as (Err r) = Err r
+read_as (Ok w) = Ok (numbers_of w)
 
 unfoldable pub flag_of : Bool → ℕ
 flag_of true = 1
 flag_of false = 0
 
--- its number, 0 where nothing is refused, and its values: the lengths of description, originator and reference text, 1 or 0
--- for date set and time set, the time reference, the version, the length of the history's text; or zeros
-unfoldable pub bext_number : Reading → ℕ
-bext_number (reading.Record b) = 0
-bext_number (reading.Refused r) = refusal_number r
-
-unfoldable pub bext_values : Reading → List ℕ
-bext_values (reading.Record b) =
+-- its values: the lengths of description, originator and reference text, 1 or 0 for date set and time set, the time reference,
+-- the version, the length of the history's text; or zeros
+unfoldable pub bext_values : Answer Bext → List ℕ
+bext_values (Ok b) =
     b.description_len ∷ b.originator_len ∷ b.reference_len ∷ flag_of b.date_set ∷ flag_of b.time_set ∷ b.timeref ∷ b.version ∷ b.history_len ∷ []
-bext_values (reading.Refused r) = replicate 8 0
+bext_values (Err r) = replicate 8 0

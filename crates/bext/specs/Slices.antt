@@ -2,7 +2,23 @@
 use Rattle.std.specs.Prelude.{ℕ, ◌≡◌, List, [], length, leb}
 use Rattle.le.specs.Number.{field}
 use Rattle.le.specs.Choice.{pick}
+use Rattle.bext.specs.declared.parts.Parts.{Parts}
 use Rattle.bext.specs.Records.{Whole, whole_in}
+
+-- the record that parts are, as they stand
+unfoldable pub whole_of : Parts → Whole
+whole_of p =
+    record {
+      description = p.description.now;
+      originator = p.originator.now;
+      reference = p.reference.now;
+      date = p.date.now;
+      time = p.time.now;
+      timeref = p.timeref;
+      version = p.version;
+      rest = p.rest.now;
+      history = p.history.now;
+    }
 
 unfoldable pub no_parts : Whole
 no_parts =

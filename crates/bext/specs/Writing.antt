@@ -2,8 +2,9 @@
 use Rattle.std.specs.Prelude.{ℕ, ◌^◌, Bool, ◌&&◌, List, ◌++◌, ltb}
 use Rattle.le.specs.Number.{bytes}
 use Rattle.chunk.specs.declared.Refusal.TheVariants.{BadRecord}
-use Rattle.chunk.specs.Refusals.{Answer, given, check}
+use Rattle.chunk.specs.Refusals.{Answer, Ok, check}
 use Rattle.bext_parts.specs.Parts.{text_good, text_given, date_given, time_given, rest_given, rest_of, padded}
+use Rattle.bext.specs.declared.parts.Parts.{Parts}
 use Rattle.bext.specs.Records.{Whole}
 
 -- ---- a record that could have been read
@@ -39,7 +40,7 @@ laid w =
 -- the payload of a record, or 16
 unfoldable pub bext_out : Whole → Answer (List ℕ)
 unfolding check
-bext_out w = check (writable w) BadRecord (given (laid w))
+bext_out w = check (writable w) BadRecord (Ok (laid w))
 
 -- ---- the writer
 
@@ -57,3 +58,7 @@ asked description originator reference date time timeref version rest history =
       rest = rest_of rest;
       history = history;
     }
+
+-- the same of the parts together
+abbrev pub asked_of : Parts → Whole
+asked_of p = asked p.description.now p.originator.now p.reference.now p.date.now p.time.now p.timeref p.version p.rest.now p.history.now

@@ -1,20 +1,26 @@
 -- The laws of runs: from each place in a run the end is the same, so a run may be passed by blocks of any width.
 -- Assumes nothing.
-use mathlib.Core.Path.{◌≡◌, refl, sym, ap}
+use mathlib.Core.Path.{◌≡◌, refl, sym, ap, ◌∙◌}
 use mathlib.Core.Bool.{Bool, true, false, not, ◌||◌, beq}
 use mathlib.Core.List.{List, [], ◌∷◌}
-use Prim.Native.Nat.{ℕ, zero, suc, ◌+◌, ◌-◌, ◌≤◌, ◌<◌}
+use Prim.Native.Nat.{ℕ, zero, suc, ◌+◌, ◌-◌, ◌*◌, ◌/◌, ◌≤◌, ◌<◌, min}
 use native.Mathlib.Omega.{arith}
-use lib.ListN.{length, drop, get_or, length-drop}
-use lib.Seq.{drop-cons, drop-drop}
-use lib.Dec.{eqb, ltb}
+use lib.ListN.{length, take, drop, get_or, length-drop}
+use lib.Seq.{drop-cons, take_all, length-take-le}
+use Rattle.std.proofs.lemmas.Bool.Decides.{nat_tests}
+use native.Mathlib.Nat.{mul_comm, suc-mul, le-div_iff_mul-le}
+use lib.Dec.{eqb, ltb, leb-suc-suc}
 use borrow.Author.Tests.{lt-ltb, le-ltb, ltb-true, ltb-false}
 use Rattle.le.specs.Choice.{pick}
 use Rattle.bext_parts.specs.Parts.{all_zero, text_of}
-use Rattle.bext_parts.specs.Code.{run, run_end}
+use Rattle.bext_parts.specs.Code.{run, Past}
+
+-- a block of n that starts whole blocks of n within so many bytes ends within them
+pub block-fits : (n i k : ℕ) → 0 < n → i < k / n → n * i + n ≤ k
+block-fits n i k p h = omega (arith, (le-div_iff_mul-le {x = suc i} {y = k} p).0 h, suc-mul i n, mul_comm n i)
 
 -- a byte as a run has them
-abbrev like : Bool → ℕ → Bool
+abbrev pub like : Bool → ℕ → Bool
 like zeros b = beq (eqb b 0) zeros
 
 module _ (zeros : Bool) where
@@ -28,7 +34,7 @@ module _ (zeros : Bool) where
       which false h = omega arith
 
   -- past k bytes of a run the rest of it stands
-  run-rest : (k : ℕ) (s : List ℕ) → k ≤ run zeros s → run zeros s ≡ k + run zeros (drop k s)
+  pub run-rest : (k : ℕ) (s : List ℕ) → k ≤ run zeros s → run zeros s ≡ k + run zeros (drop k s)
   unfolding run
   run-rest zero s h = omega arith
   run-rest (suc k) [] h = absurd (omega arith)
@@ -39,45 +45,70 @@ module _ (zeros : Bool) where
       which true f h = omega (arith, f (omega arith))
       which false f h = absurd (omega arith)
 
+  -- a run of the first n bytes
+  pub run-take : (n : ℕ) (s : List ℕ) → run zeros (take n s) ≡ min n (run zeros s)
+  unfolding run
+  run-take zero s = omega arith
+  run-take (suc n) [] = omega arith
+  run-take (suc n) (b ∷ s) = which (like zeros b) (run-take n s)
+    where
+      which : (t : Bool) → run zeros (take n s) ≡ min n (run zeros s)
+          → pick t (suc (run zeros (take n s))) 0 ≡ min (suc n) (pick t (suc (run zeros s)) 0)
+      which true h = omega arith
+      which false h = omega arith
+
 module _ (zeros : Bool) (s : List ℕ) where
-  pub run-from : (i : ℕ) → i ≤ run_end zeros s i
-  unfolding run_end
-  run-from i = omega arith
-
-  pub run-within : (i : ℕ) → i ≤ length s → run_end zeros s i ≤ length s
-  unfolding run_end
-  run-within i h = omega (arith, run_short zeros (drop i s), length-drop i s)
-
   -- one byte, which ends the run or does not
-  run-stops : (i : ℕ) → i < length s → like zeros (get_or s i 0) ≡ false → run_end zeros s i ≡ i
-  unfolding run_end run
-  run-stops i h e = rw (drop-cons s i 0, e) (omega arith)
+  run-stops : (i : ℕ) → i < length s → i ≤ run zeros s → like zeros (get_or s i 0) ≡ false → run zeros s ≡ i
+  unfolding run
+  run-stops i h l e = rw (run-rest zeros i s l, drop-cons s i 0, e) (omega arith)
 
-  run-goes-on : (i : ℕ) → i < length s → like zeros (get_or s i 0) ≡ true → i < run_end zeros s i
-  unfolding run_end run
-  run-goes-on i h e = rw (drop-cons s i 0, e) (omega arith)
-
-  -- from a later place in the run its end is the same
-  pub run-passed : (i k : ℕ) → i ≤ k → k ≤ run_end zeros s i → run_end zeros s k ≡ run_end zeros s i
-  unfolding run_end
-  run-passed i k h e =
-      let n : i + (k - i) ≡ k = omega arith in
-      rw (← n, ← (drop-drop (k - i) i s)) (omega (arith, run-rest zeros (k - i) (drop i s) (omega arith)))
+  run-goes-on : (i : ℕ) → i < length s → i ≤ run zeros s → like zeros (get_or s i 0) ≡ true → i < run zeros s
+  unfolding run
+  run-goes-on i h l e = rw (run-rest zeros i s l, drop-cons s i 0, e) (omega arith)
 
   -- whether the run ends within one byte more
-  pub run_ends : (at j : ℕ) → at + j < length s
-      → (ltb (run_end zeros s at) (at + j) || not (like zeros (get_or s (at + j) 0))) ≡ ltb (run_end zeros s at) (at + (j + 1))
-  run_ends at j h = before (ltb (run_end zeros s at) (at + j)) refl
+  pub run_ends : (j : ℕ) → j < length s
+      → (ltb (run zeros s) j || not (like zeros (get_or s j 0))) ≡ ltb (run zeros s) (j + 1)
+  run_ends j h = before (ltb (run zeros s) j) refl
     where
-      here : at + j ≤ run_end zeros s at → (t : Bool) → like zeros (get_or s (at + j) 0) ≡ t
-          → not t ≡ ltb (run_end zeros s at) (at + (j + 1))
-      here p true e = sym (le-ltb (run_end zeros s at) (at + (j + 1)) (omega (arith, run-passed at (at + j) (omega arith) p, run-goes-on (at + j) h e)))
-      here p false e = sym (lt-ltb (run_end zeros s at) (at + (j + 1)) (omega (arith, run-passed at (at + j) (omega arith) p, run-stops (at + j) h e)))
+      here : j ≤ run zeros s → (t : Bool) → like zeros (get_or s j 0) ≡ t → not t ≡ ltb (run zeros s) (j + 1)
+      here p true e = sym (le-ltb (run zeros s) (j + 1) (omega (arith, run-goes-on j h p e)))
+      here p false e = sym (lt-ltb (run zeros s) (j + 1) (omega (arith, run-stops j h p e)))
 
-      before : (t : Bool) → ltb (run_end zeros s at) (at + j) ≡ t
-          → (t || not (like zeros (get_or s (at + j) 0))) ≡ ltb (run_end zeros s at) (at + (j + 1))
-      before true e = sym (lt-ltb (run_end zeros s at) (at + (j + 1)) (omega (arith, ltb-true (run_end zeros s at) (at + j) e)))
-      before false e = here (ltb-false _ _ e) (like zeros (get_or s (at + j) 0)) refl
+      before : (t : Bool) → ltb (run zeros s) j ≡ t → (t || not (like zeros (get_or s j 0))) ≡ ltb (run zeros s) (j + 1)
+      before true e = sym (lt-ltb (run zeros s) (j + 1) (omega (arith, ltb-true (run zeros s) j e)))
+      before false e = here (ltb-false _ _ e) (like zeros (get_or s j 0)) refl
+
+  -- a block that is all of the run, and one in which it ends
+  pub block-passed : (k n m : ℕ) → m ≡ n → k ≤ run zeros s → k + n ≤ length s
+      → ltb (run zeros (take m (drop k s))) (length (take m (drop k s))) ≡ false → k + n ≤ run zeros s
+  block-passed k n m q l h e =
+      let at : length (drop k s) ≡ length s - k = length-drop k s in
+      omega (arith, at, q, run-rest zeros k s l, run-take zeros m (drop k s), length-take-le m (drop k s) (omega arith), ltb-false _ _ e)
+
+  pub block-ends : (k n m : ℕ) → m ≡ n → k ≤ run zeros s → k + n ≤ length s
+      → ltb (run zeros (take m (drop k s))) (length (take m (drop k s))) ≡ true → run zeros s < k + n
+  block-ends k n m q l h e =
+      let at : length (drop k s) ≡ length s - k = length-drop k s in
+      omega (arith, at, q, run-rest zeros k s l, run-take zeros m (drop k s), length-take-le m (drop k s) (omega arith), ltb-true _ _ e)
+
+  -- what is left from a place in the run on
+  pub past-at : (n k : ℕ) → k ≤ run zeros s → run zeros s < k + n → Past zeros n s (take (length s - k) (drop k s))
+  past-at n k l h =
+      let at : length (drop k s) ≡ length s - k = length-drop k s in
+      let short : run zeros s ≤ length s = run_short zeros s in
+      let rest : run zeros s ≡ k + run zeros (drop k s) = run-rest zeros k s l in
+      rw (take_all (length s - k) (drop k s) (omega arith))
+      record { short = omega arith; same = omega arith; near = omega arith }
+
+  -- whether the run ends ahead of the bytes' end, from a place in it on
+  pub run-drop : (k : ℕ) → k ≤ run zeros s → ltb (run zeros (drop k s)) (length (drop k s)) ≡ ltb (run zeros s) (length s)
+  run-drop k h =
+      same (run zeros (drop k s)) (length (drop k s)) (run zeros s) (length s) (run-rest zeros k s h) (length-drop k s) (run_short zeros s)
+    where
+      same : (a b c d : ℕ) → c ≡ k + a → b ≡ d - k → c ≤ d → ltb a b ≡ ltb c d
+      same a b c d e f l = grind (arith, nat_tests)
 
 -- ---- what the two kinds of run are
 
@@ -92,26 +123,20 @@ run-text (b ∷ s) = which (eqb b 0) (run-text s)
     which true h = refl
     which false h = ap suc h
 
-pub text-end : (s : List ℕ) → run_end false s 0 ≡ length (text_of s)
-unfolding run_end
-text-end s = omega (arith, run-text s)
-
--- a flag says whether the end is reached
-abbrev pub Tells : Bool → ℕ → ℕ → Type 0
-Tells flag place end = (place ≡ end → flag ≡ true) × (place < end → flag ≡ false)
+-- no zero ends a text ahead of its bytes' end
+pub whole_text : (t : List ℕ) → not (ltb (run false t) (length t)) ≡ eqb (length (text_of t)) (length t)
+whole_text t = same (run false t) (length (text_of t)) (length t) (run-text t) (run_short false t)
+  where
+    same : (r l n : ℕ) → r ≡ l → r ≤ n → not (ltb r n) ≡ eqb l n
+    same r l n e f = grind (arith, nat_tests)
 
 -- bytes are all zero where the run of zeros is all of them
-all-zeros : (s : List ℕ) (flag : Bool) → Tells flag (run true s) (length s) → flag ≡ all_zero s
+pub zeros-run : (s : List ℕ) → all_zero s ≡ not (ltb (run true s) (length s))
 unfolding run all_zero
-all-zeros [] flag h = h.0 refl
-all-zeros (b ∷ s) flag h = which (eqb b 0) (all-zeros s flag) h
+zeros-run [] = refl
+zeros-run (b ∷ s) = which (eqb b 0) (zeros-run s)
   where
-    which : (t : Bool) → (Tells flag (run true s) (length s) → flag ≡ all_zero s)
-        → Tells flag (pick (beq t true) (suc (run true s)) 0) (suc (length s)) → flag ≡ pick t (all_zero s) false
-    which true f h = f (λ e. h.0 (ap suc e), λ l. h.1 (omega arith))
-    which false f h = h.1 (omega arith)
-
-pub zero-end : (s : List ℕ) (i : ℕ) (flag : Bool) → i ≤ length s → Tells flag (run_end true s i) (length s) → flag ≡ all_zero (drop i s)
-unfolding run_end
-zero-end s i flag h t =
-    all-zeros (drop i s) flag (λ e. t.0 (omega (arith, length-drop i s)), λ l. t.1 (omega (arith, length-drop i s)))
+    which : (t : Bool) → all_zero s ≡ not (ltb (run true s) (length s))
+        → pick t (all_zero s) false ≡ not (ltb (pick (beq t true) (suc (run true s)) 0) (suc (length s)))
+    which true h = h ∙ ap not (sym (leb-suc-suc (suc (run true s)) (length s)))
+    which false h = ap not (sym (lt-ltb 0 (suc (length s)) (omega arith)))

@@ -13,7 +13,7 @@ use Rattle.chunk.proofs.Checks.{true-false, and-true, or-true}
 use Rattle.bext_parts.specs.Parts.{all_zero, is_digit, two_digits, date_good, time_good, set_of, padded}
 use Rattle.bext_parts.proofs.Texts.{zeros-zero, zero-zeros}
 use Rattle.bext_parts.proofs.Digits.{digit_low, cut_short}
-use Rattle.bext_parts.proofs.Tests.{and-false}
+use Rattle.std.proofs.Math.Bool.{and-false}
 
 -- ---- a good date or time starts with a digit, so it is not all zero
 
@@ -47,6 +47,8 @@ date-short d h = simp (cut_short d 8 1 31 (omega arith), and-false)
 pub time-short : (t : List ℕ) → length t < 8 → time_good t ≡ false
 unfolding time_good
 time-short t h = simp (cut_short t 6 0 59 (omega arith), and-false)
+
+pub ruleset set_or_short = (date-set, date-short, time-set, time-short)
 
 -- ---- one that is given fits its place: none, or n that are good
 

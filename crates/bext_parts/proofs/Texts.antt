@@ -18,22 +18,13 @@ use Rattle.bext_parts.proofs.Runs.{run_short, run-text}
 pub text-short : (s : List ℕ) → length (text_of s) ≤ length s
 text-short s = omega (arith, run-text s, run_short false s)
 
+pub ruleset short_texts = (text-short)
+
 -- ---- whole texts
 
 -- absurd, by the length of a text that stops where its bytes go on
 stopped : {A : Type 0} (n : ℕ) → 0 ≡ suc n → A
 stopped n e = absurd (omega arith)
-
--- bytes none of which is zero are a text as they stand
-text-all : (t : List ℕ) → length (text_of t) ≡ length t → text_of t ≡ t
-unfolding text_of
-text-all [] e = refl
-text-all (b ∷ t) e = which (eqb b 0) (text-all t) e
-  where
-    which : (z : Bool) → (length (text_of t) ≡ length t → text_of t ≡ t)
-        → length (pick z [] (b ∷ text_of t)) ≡ suc (length t) → pick z [] (b ∷ text_of t) ≡ b ∷ t
-    which true h e = stopped (length t) e
-    which false h e = ap (λ l. b ∷ l) (h (omega arith))
 
 -- the text of a text is that text
 pub text-again : (s : List ℕ) → length (text_of (text_of s)) ≡ length (text_of s)

@@ -1,14 +1,12 @@
 -- What only the code's contracts need.
-use Rattle.std.specs.Prelude.{ℕ, suc, ◌+◌, ◌≤◌, ◌<◌, ◌≡◌, Bool, List, [], ◌∷◌, drop, eqb}
+use Rattle.std.specs.Prelude.{ℕ, suc, ◌+◌, ◌≤◌, ◌<◌, ◌≡◌, Bool, Option, Some, None, List, [], ◌∷◌, length, eqb}
 use Rattle.std.specs.Bool.{beq}
 use Rattle.le.specs.Choice.{pick}
-use Rattle.bext_parts.specs.declared.Part.{Part}
-use Rattle.bext_parts.specs.declared.Part.TheVariants as part
 
 -- what a part holds: so many bytes, where it keeps its rule
-unfoldable pub part_of : Bool → ℕ → Part
+unfoldable pub part_of : Bool → ℕ → Option ℕ
 unfolding pick
-part_of good n = pick good (part.Length n) part.Bad
+part_of good n = pick good (Some n) None
 
 -- how many bytes, from the first on, are zero, or are not
 unfoldable pub run : Bool → List ℕ → ℕ
@@ -16,12 +14,8 @@ unfolding pick
 run zeros [] = 0
 run zeros (b ∷ bs) = pick (beq (eqb b 0) zeros) (suc (run zeros bs)) 0
 
--- where the run from a place on ends
-unfoldable pub run_end : Bool → List ℕ → ℕ → ℕ
-run_end zeros s at = at + run zeros (drop at s)
-
--- a place in the run from a place on, less than n bytes before its end
-pub record NearEnd (zeros : Bool) (n : ℕ) (s : List ℕ) (at r : ℕ) : Type 0 where
-  pub same : run_end zeros s r ≡ run_end zeros s at
-  pub low : r ≤ run_end zeros s at
-  pub high : run_end zeros s at < r + n
+-- what is left of bytes past the blocks of n bytes that a run takes up
+pub record Past (zeros : Bool) (n : ℕ) (s r : List ℕ) : Type 0 where
+  pub short : length r ≤ length s
+  pub same : run zeros s + length r ≡ run zeros r + length s
+  pub near : run zeros r < n

@@ -4,132 +4,99 @@
 // bytes.
 #![tactic(auto)]
 
-ghost use Rattle.std.specs.Prelude.{◌≡◌, ◌||◌, ◌+◌, ◌≤◌, ◌<◌, length, drop, ltb};
-ghost use Rattle.bext_parts.specs.Parts.{all_zero, text_of, text_good, is_digit, two_digits, is_separator, date_good, time_good, set_of, rest_good, text_given, date_given, time_given, rest_of, rest_given};
-ghost use Rattle.bext_parts.specs.Code.{part_of, run_end, NearEnd};
+ghost use Rattle.std.specs.Prelude.{◌≡◌, ◌||◌, ◌+◌, ◌≤◌, ◌<◌, true, false, length, ltb};
+ghost use Rattle.bext_parts.specs.Parts.{all_zero, text_of, text_good, two_digits, is_separator, date_good, time_good, set_of, rest_good, text_given, date_given, time_given, rest_of, rest_given};
+ghost use Rattle.bext_parts.specs.Code.{part_of, run, Past};
 
-// What a part of a payload holds.
-#[derive(Clone, Copy)]
-pub enum Part {
-    // So many bytes.
-    Length(u64),
-    // It breaks its rule.
-    Bad,
-}
-
-// Whether a run of zeros, or of other bytes, ends within the n bytes at a place. All n are looked at, so that where n is
+// Whether a run of zeros, or of other bytes, ends within these bytes. All of them are looked at, so that where their number is
 // known they are compared at once.
-fn ends_in(s: &[u8], at: usize, n: usize, zeros: bool) -> bool
-    requires { at + n ≤ length s.now }
-    ensures { result ≡ ltb (run_end zeros s.now at) (at + n) }
+fn ends_in(s: &[u8], zeros: bool) -> bool
+    ensures { result ≡ ltb (run zeros s.now) (length s.now) }
 {
     let mut met = false;
-    let mut j = 0;
-    while j < n {
-        met = met | ((s[at + j] == 0) != zeros);
-        j += 1;
+    for &byte in s {
+        met |= (byte == 0) != zeros;
     }
     met
 }
 
-// Passes a run from a place on by blocks of n bytes: fewer than n of it are left.
-fn near_end(s: &[u8], at: usize, n: usize, zeros: bool) -> usize
-    requires { (at ≤ length s.now) × (0 < n) }
-    ensures { NearEnd zeros n s.now at result }
+// What is left of these bytes past the blocks of N bytes that a run takes up: fewer than N bytes of it stand there.
+// Kept: a range of places, since split_first_chunk takes bext's reader some 20 instructions more.
+fn past<const N: usize>(s: &[u8], zeros: bool) -> &[u8]
+    requires { (0 < N) × (N ≤ 64) }
+    ensures { Past zeros N s.now result.now }
 {
-    let mut i = at;
-    while n <= s.len() - i {
-        if ends_in(s, i, n, zeros) {
-            return i;
+    for i in 0..s.len() / N {
+        if ends_in(&s[N * i..N * i + N], zeros) {
+            return &s[N * i..];
         }
-        i += n;
     }
-    i
+    &s[s.len() / N * N..]
 }
 
 // How many bytes stand before the first zero.
 pub fn text_length(s: &[u8]) -> usize
     ensures { result ≡ length (text_of s.now) }
 {
-    let i = near_end(s, 0, 64, false);
-    let k = near_end(s, i, 8, false);
-    near_end(s, k, 1, false)
-}
-
-// Whether all bytes from a place on are zero.
-fn zero_from(s: &[u8], at: usize) -> bool
-    requires { at ≤ length s.now }
-    ensures { result ≡ all_zero (drop at s.now) }
-{
-    if s.len() - at < 8 {
-        return near_end(s, at, 1, true) == s.len();
-    }
-    let i = near_end(s, at, 64, true);
-    let k = near_end(s, i, 8, true);
-    // The last 8 bytes hold what is left.
-    s.len() - k < 8 && !ends_in(s, s.len() - 8, 8, true)
+    s.len() - past::<1>(past::<8>(past::<64>(s, false), false), false).len()
 }
 
 // Whether these bytes are all zero.
 pub fn all_zero(s: &[u8]) -> bool
     ensures { result ≡ all_zero s.now }
 {
-    zero_from(s, 0)
+    let Some(last) = s.last_chunk::<8>() else {
+        return past::<1>(s, true).is_empty();
+    };
+    let rest = past::<8>(past::<64>(s, true), true);
+    // The last 8 bytes hold what is left.
+    rest.len() < 8 && !ends_in(last, true)
 }
 
 // Whether these bytes are a text, and zeros after it.
+#[tactic(auto, using(crate::proofs::Texts::short_texts), unfolding(crate::specs::Parts::text_good))]
 pub fn text_good(s: &[u8]) -> bool
     ensures { result ≡ text_good s.now }
 {
-    zero_from(s, text_length(s))
+    all_zero(&s[text_length(s)..])
 }
 
-// The text in these bytes.
-pub fn text(s: &[u8]) -> Part
+// The length of the text in these bytes. Like date and time it is inlined: calls take bext's reader some 20 instructions more.
+#[tactic(auto, using(crate::proofs::Texts::short_texts), unfolding(crate::specs::Code::part_of, crate::specs::Parts::text_good))]
+#[inline(always)]
+pub fn text(s: &[u8]) -> Option<u64>
     ensures { result ≡ part_of (text_good s.now) (length (text_of s.now)) }
 {
     let n = text_length(s);
-    if zero_from(s, n) {
-        Part::Length(n as u64)
-    } else {
-        Part::Bad
-    }
-}
-
-fn digit(b: u8) -> bool
-    ensures { result ≡ is_digit b }
-{
-    0x30 <= b && b <= 0x39
+    all_zero(&s[n..]).then_some(n as u64)
 }
 
 // Two digits at a place, whose number lies from low to high.
+#[tactic(auto, unfolding(crate::specs::Parts::two_digits, crate::specs::Parts::is_digit))]
 fn two_digits(s: &[u8], at: usize, low: u8, high: u8) -> bool
     requires { at + 2 ≤ length s.now }
     ensures { result ≡ two_digits s.now at low high }
 {
     let a = s[at];
     let b = s[at + 1];
-    if !digit(a) {
+    if !a.is_ascii_digit() || !b.is_ascii_digit() {
         return false;
     }
-    if !digit(b) {
-        return false;
-    }
-    let n = 10 * (a - 0x30) + (b - 0x30);
-    low <= n && n <= high
+    let n = 10 * (a - b'0') + (b - b'0');
+    (low..=high).contains(&n)
 }
 
 // Hyphen, underscore, colon, space or full stop.
+#[tactic(auto, unfolding(crate::specs::Parts::is_separator))]
 fn separator(b: u8) -> bool
     ensures { result ≡ is_separator b }
 {
-    match b {
-        0x2d | 0x5f | 0x3a | 0x20 | 0x2e => true,
-        _ => false,
-    }
+    matches!(b, b'-' | b'_' | b':' | b' ' | b'.')
 }
 
 // The rule for a date: yyyy?mm?dd.
+// Kept apart from the rule for a time: a request changes each in its own home (docs/DECISIONS.md).
+#[tactic(auto, unfolding(crate::specs::Parts::date_good))]
 fn date_good(d: &[u8]) -> bool
     requires { 10 ≤ length d.now }
     ensures { result ≡ date_good d.now }
@@ -143,6 +110,7 @@ fn date_good(d: &[u8]) -> bool
 }
 
 // The rule for a time: hh?mm?ss.
+#[tactic(auto, unfolding(crate::specs::Parts::time_good))]
 fn time_good(t: &[u8]) -> bool
     requires { 8 ≤ length t.now }
     ensures { result ≡ time_good t.now }
@@ -154,86 +122,74 @@ fn time_good(t: &[u8]) -> bool
         && two_digits(t, 6, 0, 59)
 }
 
-// The date in these bytes: none where they are all zero, else the first 10 are judged; fewer are bad. Most dates are set,
-// so that is asked first.
-pub fn date(d: &[u8]) -> Part
-    ensures { result ≡ part_of (all_zero d.now || date_good d.now) (length (set_of d.now)) }
+// What is set in the bytes of a date or a time, by whether they keep its rule: none where they are all zero. Most are set, so
+// that is asked first.
+#[tactic(auto, unfolding(crate::specs::Code::part_of, crate::specs::Parts::set_of))]
+fn stamp(s: &[u8], good: bool) -> Option<u64>
+    requires { good ≡ true → all_zero s.now ≡ false }
+    ensures { result ≡ part_of (all_zero s.now || good) (length (set_of s.now)) }
 {
-    if 10 <= d.len() && date_good(d) {
-        return Part::Length(d.len() as u64);
+    if good {
+        return Some(s.len() as u64);
     }
-    if zero_from(d, 0) {
-        return Part::Length(0);
-    }
-    Part::Bad
+    all_zero(s).then_some(0)
 }
 
-// The time in these bytes: none where they are all zero, else the first 8 are judged; fewer are bad.
-pub fn time(t: &[u8]) -> Part
+// The length of the date in these bytes: none where they are all zero, else the first 10 are judged; fewer are bad.
+// Kept: beside time, and date_given beside time_given, a line each: stamp has what they share, and each names its rule.
+#[tactic(auto, using(crate::proofs::Stamps::set_or_short))]
+#[inline(always)]
+pub fn date(d: &[u8]) -> Option<u64>
+    ensures { result ≡ part_of (all_zero d.now || date_good d.now) (length (set_of d.now)) }
+{
+    stamp(d, 10 <= d.len() && date_good(d))
+}
+
+// The length of the time in these bytes: none where they are all zero, else the first 8 are judged; fewer are bad.
+#[tactic(auto, using(crate::proofs::Stamps::set_or_short))]
+#[inline(always)]
+pub fn time(t: &[u8]) -> Option<u64>
     ensures { result ≡ part_of (all_zero t.now || time_good t.now) (length (set_of t.now)) }
 {
-    if 8 <= t.len() && time_good(t) {
-        return Part::Length(t.len() as u64);
-    }
-    if zero_from(t, 0) {
-        return Part::Length(0);
-    }
-    Part::Bad
+    stamp(t, 8 <= t.len() && time_good(t))
 }
 
 // The rule for the bytes after Version.
+#[tactic(auto, unfolding(crate::specs::Parts::rest_good))]
 pub fn rest_good(version: u64, rest: &[u8]) -> bool
     ensures { result ≡ rest_good version rest.now }
 {
-    if version == 0 {
-        zero_from(rest, 0)
-    } else {
-        true
-    }
+    version != 0 || all_zero(rest)
 }
 
 // Whether a text to write has at most n bytes, none of them zero.
+#[tactic(auto, using(crate::proofs::Runs::whole_text), unfolding(crate::specs::Parts::text_given))]
 pub fn text_given(t: &[u8], n: usize) -> bool
     ensures { result ≡ text_given n t.now }
 {
-    t.len() <= n && !ends_in(t, 0, t.len(), false)
+    t.len() <= n && !ends_in(t, false)
 }
 
 // Whether a date to write is good, or not set.
+#[tactic(auto, unfolding(crate::specs::Parts::date_given))]
 pub fn date_given(d: &[u8]) -> bool
     ensures { result ≡ date_given d.now }
 {
-    if d.len() == 0 {
-        return true;
-    }
-    if d.len() != 10 {
-        return false;
-    }
-    date_good(d)
+    d.is_empty() || d.len() == 10 && date_good(d)
 }
 
 // Whether a time to write is good, or not set.
+#[tactic(auto, unfolding(crate::specs::Parts::time_given))]
 pub fn time_given(t: &[u8]) -> bool
     ensures { result ≡ time_given t.now }
 {
-    if t.len() == 0 {
-        return true;
-    }
-    if t.len() != 8 {
-        return false;
-    }
-    time_good(t)
+    t.is_empty() || t.len() == 8 && time_good(t)
 }
 
 // Whether the bytes after Version to write are good; none stand for zeros.
+#[tactic(auto, unfolding(crate::specs::Parts::rest_given, crate::specs::Parts::rest_of))]
 pub fn rest_given(version: u64, rest: &[u8]) -> bool
     ensures { result ≡ rest_given version (rest_of rest.now) }
 {
-    if rest.len() == 0 {
-        return true;
-    }
-    if rest.len() != 254 {
-        return false;
-    }
-    rest_good(version, rest)
+    rest.is_empty() || rest.len() == 254 && rest_good(version, rest)
 }

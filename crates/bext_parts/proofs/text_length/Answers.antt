@@ -1,17 +1,7 @@
--- `bext_parts::text_length` meets its contract: less than one byte before the end of the run is its end.
+-- `bext_parts::text_length` meets its contract: less than one byte of the run is none.
 use native.Mathlib.Omega.{arith}
-use mathlib.Core.Bool.{false}
-use Rattle.bext_parts.proofs.Runs.{run-within, text-end}
+use Rattle.bext_parts.proofs.Runs.{run-text}
 use Rattle.bext_parts.proofs.text_length.Goals as goal
 
-pub near_end-k-requires : goal.near_end-k-requires
-near_end-k-requires c =
-    omega (arith, run-within false c.args.s.now 0 (omega arith))
-
-pub near_end-requires : goal.near_end-requires
-near_end-requires c =
-    omega (arith, run-within false c.args.s.now 0 (omega arith))
-
 pub returns : goal.returns
-returns c =
-    omega (arith, text-end c.args.s.now)
+returns c = omega (arith, run-text c.args.s.now)
