@@ -3,21 +3,21 @@
 use mathlib.Core.Path.{◌≡◌, refl, sym, ap, ap₂, ◌∙◌, subst}
 use mathlib.Core.Bool.{Bool, true, false}
 use mathlib.Core.List.{List, [], ◌∷◌}
-use Prim.Native.Nat.{ℕ, zero, suc, ◌+◌, ◌-◌, ◌*◌, ◌/◌, ◌%◌, ◌^◌, ◌≤◌, ◌<◌}
+use Prim.Native.Nat.{ℕ, zero, suc, ◌+◌, ◌-◌, ◌*◌, ◌/◌, ◌≤◌, ◌<◌}
 use native.Mathlib.Omega.{arith}
 use native.Mathlib.Nat.{zero-add, suc-add, add-sub_cancel_left}
-use lib.ListN.{length, take, drop, get_or, replicate, length-set, length-replicate}
+use lib.ListN.{length, take, drop, replicate, length-set, length-replicate}
 use lib.Seq.{drop-drop}
 use native.Mathlib.Numerals.{add-one}
 use lib.Dec.{eqb, leb}
-use lib.Bits.{bit_or}
 use borrow.Author.Tests.{le-leb, lt-leb}
 use Rattle.le.specs.Number.{field, number}
 use Rattle.le.specs.Choice.{pick, every}
 use Rattle.chna_entry.specs.Ids.{fits, UNUSED}
 use Rattle.chna_entry.specs.Entries.{Entry, unused, used, used_in, entry_in, used_good, entry_good}
 use Rattle.chna.specs.Records.{entries_at, entries_in, entries_good, indices, occurs, different, whole_of, whole_good}
-use Rattle.chna_entry.proofs.Patterns.{both, holds, fails, itself}
+use Rattle.chunk.proofs.Checks.{pick_true, pick-false}
+use Rattle.chna_entry.proofs.Patterns.{both, itself}
 use Rattle.chna.proofs.Marks.{bit, marked, bit-marked, bit-none}
 
 -- an entry's bytes, as the code lends them
@@ -117,7 +117,7 @@ one-unused channels s left marks tracks uids u c =
     }
 
 -- a used one
-counted-once : (b : Bool) (tracks d x : ℕ) → tracks ≡ d → x ≡ pick b 1 0 → tracks + 1 - x ≡ pick b d (suc d)
+counted-once : (b : Bool) (tracks d x : ℕ) → tracks ≡ d → x ≡ pick b 1 0 → tracks + (1 - x) ≡ pick b d (suc d)
 unfolding pick
 counted-once true tracks d x e f = omega arith
 counted-once false tracks d x e f = omega arith
@@ -133,7 +133,7 @@ pub one-used : (channels : ℕ) (s : List ℕ) (left : ℕ) (marks : List ℕ) (
     → number 2 0 (field 40 (left * 40) s) < 65536
     → Counted channels s (suc left) marks tracks uids
     → Counted channels s left (marked marks (number 2 0 (field 40 (left * 40) s)))
-    (tracks + 1 - bit marks (number 2 0 (field 40 (left * 40) s))) (uids + 1)
+    (tracks + (1 - bit marks (number 2 0 (field 40 (left * 40) s)))) (uids + 1)
 unfolding entries_good entry_good entry_in indices different occurs used_in marked pick
 one-used channels s left marks tracks uids u g below c =
     let e : List ℕ = field 40 (left * 40) s in
@@ -141,12 +141,12 @@ one-used channels s left marks tracks uids u g below c =
     let rest : List Entry = from (suc left) s in
     let cons : from left s ≡ used (used_in e) ∷ rest =
     from_cons left s c.within ∙ ap (λ (b : Bool). pick b unused (used (used_in e)) ∷ rest) u in
-    let step : tracks + 1 - bit marks i ≡ pick (occurs i (indices rest)) (different (indices rest)) (suc (different (indices rest))) =
+    let step : tracks + (1 - bit marks i) ≡ pick (occurs i (indices rest)) (different (indices rest)) (suc (different (indices rest))) =
     counted-once (occurs i (indices rest)) tracks (different (indices rest)) (bit marks i) c.different_so_far (c.bits i) in
     record {
       within = omega arith;
       few = c.few;
-      good = ap (entries_good channels) cons ∙ holds (used_good channels (used_in e)) (entries_good channels rest) g ∙ c.good;
+      good = ap (entries_good channels) cons ∙ pick_true (used_good channels (used_in e)) (entries_good channels rest) false g ∙ c.good;
       used_so_far = add-one uids ∙ ap suc c.used_so_far ∙ sym (ap (λ (es : List Entry). length (indices es)) cons);
       different_so_far = step ∙ sym (ap (λ (es : List Entry). different (indices es)) cons);
       bits = λ k.
@@ -154,7 +154,7 @@ one-used channels s left marks tracks uids u g below c =
           ∙ ap (pick (eqb i k) 1) (c.bits k)
           ∙ one_bit (eqb i k) (occurs k (indices rest))
           ∙ sym (ap (λ (es : List Entry). pick (occurs k (indices es)) 1 0) cons);
-      words = length-set marks (i / 64) (bit_or (get_or marks (i / 64) 0) (2 ^ (i % 64))) ∙ c.words;
+      words = length-set marks (i / 64) _ ∙ c.words;
       room = omega (arith, c.room);
       fewer = omega (arith, c.fewer);
     }
@@ -188,18 +188,18 @@ one-bad channels s left marks tracks uids t u n g c =
     let e : List ℕ = field 40 (left * 40) s in
     let all : left + (length s / 40 - left) ≡ length s / 40 = omega (arith, c.within) in
     fails-second (leb (length (entries_in s)) 1024) _
-    (fails (entries_good channels (entries_in s)) _
+    (pick-false (entries_good channels (entries_in s)) _ false
     (ap (λ (m : ℕ). entries_good channels (entries_at m s)) (sym all)
     ∙ bad-before channels left (length s / 40 - left) s
     (ap (entries_good channels)
     (from_cons left s c.within ∙ ap (λ (b : Bool). pick b unused (used (used_in e)) ∷ from (suc left) s) n)
-    ∙ fails (used_good channels (used_in e)) _ g)))
+    ∙ pick-false (used_good channels (used_in e)) _ false g)))
 
 -- too many
 pub too_many : (channels : ℕ) (s : List ℕ) (t u : ℕ) → 1024 < length s / 40 → whole_good channels (whole_of t u s) ≡ false
 unfolding whole_good whole_of every
 too_many channels s t u h =
-    fails (leb (length (entries_in s)) 1024) _ (lt-leb (length (entries_in s)) 1024 (omega (arith, entries-count s)))
+    pick-false (leb (length (entries_in s)) 1024) _ false (lt-leb (length (entries_in s)) 1024 (omega (arith, entries-count s)))
 
 -- all of them
 pub all-counted : (channels : ℕ) (s : List ℕ) (marks : List ℕ) (tracks uids t u : ℕ)
@@ -207,8 +207,8 @@ pub all-counted : (channels : ℕ) (s : List ℕ) (marks : List ℕ) (tracks uid
     → whole_good channels (whole_of t u s) ≡ both (eqb u uids) (eqb t tracks)
 unfolding whole_good whole_of every
 all-counted channels s marks tracks uids t u c =
-    holds (leb (length (entries_in s)) 1024) _ (le-leb (length (entries_in s)) 1024 (omega (arith, c.few, entries-count s)))
-    ∙ holds (entries_good channels (entries_in s)) _ (ap (entries_good channels) (sym (from_all s)) ∙ c.good)
+    pick_true (leb (length (entries_in s)) 1024) _ false (le-leb (length (entries_in s)) 1024 (omega (arith, c.few, entries-count s)))
+    ∙ pick_true (entries_good channels (entries_in s)) _ false (ap (entries_good channels) (sym (from_all s)) ∙ c.good)
     ∙ ap₂ both
     (ap (eqb u) (sym (c.used_so_far ∙ ap (λ (es : List Entry). length (indices es)) (from_all s))))
     (itself (eqb t (different (indices (entries_in s))))

@@ -8,27 +8,25 @@ use native.Mathlib.Omega.{arith}
 use lib.ListN.{length, take, drop, get_or, length-take, length-drop, get_or-eq_default}
 use lib.Seq.{drop-drop, drop_at, take-add, take-take, length-take-le}
 use lib.Dec.{leb, ltb}
-use borrow.Author.Tests.{leb-true, leb-false, ltb-true, ltb-false}
+use borrow.Author.Tests.{leb-true, leb-false, ltb-true, ltb-false, eq-eqb, ne_eqb}
 use Rattle.le.specs.Choice.{pick}
 use Rattle.le.specs.Number.{field}
 use Rattle.le.proofs.Laws.{field-length}
-use Rattle.chunk.specs.Refusals.{given}
+use Rattle.chunk.specs.Refusals.{Ok}
 use Rattle.chna_entry.specs.Ids.{fits, UNUSED}
-use Rattle.chna_entry.specs.Entries.{Used, unused, used, used_in, entry_in}
-use Rattle.chna_entry.proofs.Values.{not-whole, whole}
+use Rattle.chna_entry.specs.Entries.{Used, unused, used, used_in, entry_in, whole_entry}
 use Rattle.chna.specs.Records.{entry_at, EntryStands, entries_at, entries_in, Whole, whole_of, whole_in, chna_in}
 use Rattle.chna.proofs.Counts.{entries-count}
 use Rattle.chna.proofs.Answers.{accepted}
 
 pub entry-there : (i : ℕ) (p : List ℕ) → 4 + i * 40 + 40 ≤ length p → entry_at i p ≡ entry_in (field 40 (4 + i * 40) p)
-unfolding entry_at
-entry-there i p h = whole (field 40 (4 + i * 40) p) (field-length 40 (4 + i * 40) p h)
+unfolding entry_at whole_entry pick
+entry-there i p h = rw (eq-eqb (length (field 40 (4 + i * 40) p)) 40 (field-length 40 (4 + i * 40) p h)) refl
 
 pub entry_past : (i : ℕ) (p : List ℕ) → length p < 4 + i * 40 + 40 → entry_at i p ≡ unused
-unfolding entry_at field
+unfolding entry_at whole_entry field pick
 entry_past i p h =
-    not-whole (field 40 (4 + i * 40) p)
-    (λ e. omega (arith, length-take 40 (drop (4 + i * 40) p), length-drop (4 + i * 40) p))
+    rw (ne_eqb (length (field 40 (4 + i * 40) p)) 40 (λ e. omega (arith, length-take 40 (drop (4 + i * 40) p), length-drop (4 + i * 40) p))) refl
 
 -- ---- among all entries
 
@@ -56,7 +54,7 @@ each i p = by (ltb i (length (drop 4 p) / 40)) refl where
       ∙ sym (get_or-eq_default (entries_in (drop 4 p)) unused (omega (arith, entries-count (drop 4 p))))
 
 -- entry i of an accepted payload is the i-th of the record's, for every i below their number; past it, it is not used
-pub entry-of-record : (channels : ℕ) (p : List ℕ) (w : Whole) → chna_in channels p ≡ given w
+pub entry-of-record : (channels : ℕ) (p : List ℕ) (w : Whole) → chna_in channels p ≡ Ok w
     → (i : ℕ) → entry_at i p ≡ get_or w.entries i unused
 unfolding whole_in whole_of
 entry-of-record channels p w e i =

@@ -6,9 +6,8 @@ use Prim.Native.Nat.{ℕ}
 use Prim.Native.String.{String}
 use lib.ListN.{replicate}
 use Rattle.le.specs.Number.{bytes, field, number, value}
-use Rattle.chunk.specs.Refusals.{check}
-use Rattle.chna.specs.declared.Reading.{Reading}
-use Rattle.chna.specs.declared.Reading.TheVariants as reading
+use Rattle.chunk.specs.Refusals.{Answer, Ok, check}
+use Rattle.chna.specs.declared.Chna.{Chna}
 use Rattle.chna_entry.specs.Ids.{is_hex, fits_one, fits, codes}
 use Rattle.chna_entry.specs.Entries.{used_in, entry_in, used_good, entry_good}
 use Rattle.chna.specs.Records.{entries_at, entries_in, entries_good, indices, occurs, different, whole_of, whole_in, whole_good, length_good, chna_in, numbers_of, read_as}
@@ -18,8 +17,8 @@ abbrev id : ℕ → String → String → String → List ℕ
 id index uid track pack = bytes 2 index ++ codes uid ++ codes track ++ codes pack ++ (0 ∷ [])
 
 -- what the reader answers
-abbrev counts : ℕ → ℕ → ℕ → Reading
-counts t u n = reading.Record (record { tracks = t; uids = u; entries = n })
+abbrev counts : ℕ → ℕ → ℕ → Answer Chna
+counts t u n = Ok (record { tracks = t; uids = u; entries = n })
 
 -- 8.3.1, a simple stereo file
 stereo : read_as

@@ -7,7 +7,7 @@ use native.Mathlib.Nat.{zero-add, suc-add}
 use native.Mathlib.Omega.{arith}
 use lib.ListN.{length, set, take, drop, length-set, length-append, length-drop, take-append-drop}
 use lib.Seq.{set-append_left, length-take-le, take_at, drop_at, drop-drop}
-use Rattle.chunk.specs.Refusals.{given}
+use Rattle.chunk.specs.Refusals.{Ok}
 use Rattle.chunk.specs.Writes.{fitting, output_of}
 use Rattle.chunk.proofs.Outputs.{no_room, room}
 use Rattle.chna.specs.Records.{pads_at, pads_off, pads_zeroed}
@@ -101,13 +101,13 @@ zeroed-front n p rest out z h e f =
 
 -- what copying it leaves, by whether there is room
 pub copied-whole : (p out : List ℕ) → length p ≤ length out
-    → output_of out (fitting out (given (pads_zeroed p))) ≡ pads_zeroed p ++ drop (length p) out
+    → output_of out (fitting out (Ok (pads_zeroed p))) ≡ pads_zeroed p ++ drop (length p) out
 unfolding output_of
 copied-whole p out h =
     ap (output_of out) (room (pads_zeroed p) out (omega (arith, zeroed-length p)))
     ∙ ap (λ (n : ℕ). pads_zeroed p ++ drop n out) (zeroed-length p)
 
-pub copied-short : (p out : List ℕ) → length out < length p → output_of out (fitting out (given (pads_zeroed p))) ≡ out
+pub copied-short : (p out : List ℕ) → length out < length p → output_of out (fitting out (Ok (pads_zeroed p))) ≡ out
 unfolding output_of
 copied-short p out h = ap (output_of out) (no_room (pads_zeroed p) out (omega (arith, zeroed-length p)))
 

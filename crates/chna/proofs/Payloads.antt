@@ -13,7 +13,7 @@ use Rattle.le.proofs.Laws.{Bytes-drop, bytes-number}
 use Rattle.chna_entry.specs.Ids.{fits, UNUSED}
 use Rattle.chna_entry.specs.Entries.{unused, used, used_in, entry_in}
 use Rattle.chna.specs.Records.{entry_bytes, entries_at, entries_in, entries_bytes, whole_of, payload_of, pads_at, pads_off}
-use Rattle.chna_entry.proofs.Patterns.{zeros-only, bytes-field}
+use Rattle.chna_entry.proofs.Patterns.{zeros-only}
 use Rattle.chna_entry.proofs.Parts.{parts}
 
 -- ---- one entry
@@ -29,13 +29,20 @@ entry-bytes e h n = by (fits UNUSED e) refl where
 
 -- ---- all entries
 
+Bytes-take : (n : ℕ) (s : List ℕ) → Bytes s → Bytes (take n s)
+unfolding Bytes
+Bytes-take zero s h i = omega arith
+Bytes-take (suc n) [] h i = omega arith
+Bytes-take (suc n) (x ∷ s) h zero = h 0
+Bytes-take (suc n) (x ∷ s) h (suc i) = Bytes-take n s (λ j. h (suc j)) i
+
 entries-bytes : (n : ℕ) (s : List ℕ) → Bytes s → length s ≡ n * 40 → entries_bytes (entries_at n s) ≡ pads_at n s
 unfolding entries_bytes entries_at pads_at field
 entries-bytes zero [] h e = refl
 entries-bytes zero (b ∷ s) h e = absurd (omega arith)
 entries-bytes (suc n) s h e =
     ap₂ (λ (a b : List ℕ). a ++ b)
-    (entry-bytes (take 40 s) (bytes-field 40 0 s h) (length-take-le 40 s (omega arith)))
+    (entry-bytes (take 40 s) (Bytes-take 40 s h) (length-take-le 40 s (omega arith)))
     (entries-bytes n (drop 40 s) (Bytes-drop 40 s h) (omega (arith, length-drop 40 s)))
 
 pub payload-bytes : (tracks uids : ℕ) (s : List ℕ) → Bytes s → length s % 40 ≡ 0

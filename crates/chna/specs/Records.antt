@@ -3,11 +3,9 @@ use Rattle.std.specs.Prelude.{ℕ, zero, suc, ◌+◌, ◌-◌, ◌*◌, ◌/◌
 use Rattle.le.specs.Number.{bytes, field, number}
 use Rattle.le.specs.Choice.{pick, every}
 use Rattle.chunk.specs.declared.Refusal.TheVariants.{BadChna, BadRecord}
-use Rattle.chunk.specs.Refusals.{refusal_number, Answer, refused, given, check}
+use Rattle.chunk.specs.Refusals.{Answer, Err, Ok, check}
 use Rattle.chna_entry.specs.Entries.{Used, Entry, unused, used, entry_in, whole_entry, entry_good}
 use Rattle.chna.specs.declared.Chna.{Chna}
-use Rattle.chna.specs.declared.Reading.{Reading}
-use Rattle.chna.specs.declared.Reading.TheVariants as reading
 
 -- ---- the entries
 
@@ -90,25 +88,21 @@ unfolding check
 chna_in channels p =
     check (length_good (length p)) BadChna
     (check (whole_good channels (whole_in p)) BadChna
-    (given (whole_in p)))
+    (Ok (whole_in p)))
 
 -- the record by numbers
 unfoldable pub numbers_of : Whole → Chna
 numbers_of w = record { tracks = w.tracks; uids = w.uids; entries = length w.entries }
 
 -- the reader's answer: the record, whose entries stay in the payload, or the refusal
-unfoldable pub read_as : Answer Whole → Reading
-read_as (refused r) = reading.Refused r
-read_as (given w) = reading.Record (numbers_of w)
+unfoldable pub read_as : Answer Whole → Answer Chna
+read_as (Err r) = Err r
+read_as (Ok w) = Ok (numbers_of w)
 
--- its number, 0 where nothing is refused, and its values: track count, UID count and number of entries, or zeros
-unfoldable pub chna_number : Reading → ℕ
-chna_number (reading.Record c) = 0
-chna_number (reading.Refused r) = refusal_number r
-
-unfoldable pub chna_values : Reading → List ℕ
-chna_values (reading.Record c) = c.tracks ∷ c.uids ∷ c.entries ∷ []
-chna_values (reading.Refused r) = replicate 3 0
+-- its values: track count, UID count and number of entries, or zeros where it is refused
+unfoldable pub chna_values : Answer Chna → List ℕ
+chna_values (Ok c) = c.tracks ∷ c.uids ∷ c.entries ∷ []
+chna_values (Err r) = replicate 3 0
 
 -- ---- writing
 
@@ -127,7 +121,7 @@ payload_of w = bytes 2 w.tracks ++ bytes 2 w.uids ++ entries_bytes w.entries
 -- the payload of a record, or 16
 unfoldable pub chna_out : ℕ → Whole → Answer (List ℕ)
 unfolding check
-chna_out channels w = check (whole_good channels w) BadRecord (given (payload_of w))
+chna_out channels w = check (whole_good channels w) BadRecord (Ok (payload_of w))
 
 -- the same of a record whose entries are given as bytes, 40 for each
 unfoldable pub chna_from : ℕ → ℕ → ℕ → List ℕ → Answer (List ℕ)

@@ -4,18 +4,17 @@
 // bytes that were lent; entry takes out one.
 #![tactic(auto)]
 
-ghost use Rattle.std.specs.Prelude.{◌≡◌, ◌/◌, ◌%◌, ◌^◌, ◌<◌};
-ghost use Rattle.std.specs.Int.Bits.{bit_or};
-ghost use Rattle.chunk.specs.Refusals.{given};
+ghost use Rattle.std.specs.Prelude.{◌≡◌};
+ghost use Rattle.chunk.specs.Refusals.{Ok};
 ghost use Rattle.chunk.specs.Writes.{fitting, output_of, Writes};
 ghost use Rattle.chna_entry.specs.Entries.{value_of};
 ghost use Rattle.chna.specs.Records.{entry_at, whole_of, whole_good, chna_in, read_as, chna_from, pads_zeroed};
 
 use chna_entry::Entry;
-use chunk::{Refusal, Written};
+use chunk::Refusal;
 
 // A record: its two counts and how many entries it has.
-#[derive(Clone, Copy)]
+#[derive(Clone, Copy, Debug, PartialEq, Eq)]
 pub struct Chna {
     // The track count: how many different tracks the used entries name.
     pub tracks: u64,
@@ -32,120 +31,85 @@ impl Chna {
     pub const ENTRY: usize = chna_entry::SIZE;
 }
 
-// What a reader answers.
-#[derive(Clone, Copy)]
-pub enum Reading {
-    Record(Chna),
-    // 14: a rule of chna is broken.
-    Refused(Refusal),
-}
-
-// Whether a bit of a word is set: 1 or 0.
-fn bit_of(word: u64, bit: u64) -> u64
-    requires { bit < 64 }
-    ensures { result ≡ word / 2 ^ bit % 2 }
-{
-    (word >> bit) % 2
-}
-
-// A word with a bit set.
-fn with_bit(word: u64, bit: u64) -> u64
-    requires { bit < 64 }
-    ensures { result ≡ bit_or word (2 ^ bit) }
-{
-    word | (1 << bit)
-}
-
 // The rules of a record whose entries are given as bytes. It goes from the last entry to the first: an index counts where
 // no later entry has it, which its bit in marks tells. Marks has a bit for each index of 16 bits.
+// Kept: counts, entries and channels come one by one, here and in write, as C has them (symphedra_write_chna).
 fn whole_good(entries: &[u8], tracks: u64, uids: u64, channels: u64) -> bool
     ensures { result ≡ whole_good channels (whole_of tracks uids entries.now) }
 {
-    let mut left = entries.len() / Chna::ENTRY;
-    if Chna::LIMIT < left {
+    let count = entries.len() / Chna::ENTRY;
+    if Chna::LIMIT < count {
         return false;
     }
+    // Kept: bits in words and no set, since there is no heap (docs/DECISIONS.md).
     let mut marks = [0u64; 1024];
-    let mut different: u64 = 0;
-    let mut used: u64 = 0;
-    while 0 < left {
-        left -= 1;
-        let at = left * Chna::ENTRY;
-        let end = at + Chna::ENTRY;
-        let e = &entries[at..end];
-        if !chna_entry::is_unused(e) {
-            if !chna_entry::used_good(e, channels) {
-                return false;
-            }
-            let index = le::read2(e, 0);
-            let cell = (index / 64) as usize;
-            let bit = index % 64;
-            let word = marks[cell];
-            different = different + 1 - bit_of(word, bit);
-            marks[cell] = with_bit(word, bit);
-            used += 1;
+    let mut different = 0;
+    let mut used = 0;
+    for i in (0..count).rev() {
+        let at = i * Chna::ENTRY;
+        let e = &entries[at..at + Chna::ENTRY];
+        if chna_entry::is_unused(e) {
+            continue;
         }
+        if !chna_entry::used_good(e, channels) {
+            return false;
+        }
+        let index = le::read::<2>(e, 0);
+        let cell = (index / 64) as usize;
+        let bit = 1 << (index % 64);
+        different += u64::from(marks[cell] & bit == 0);
+        marks[cell] |= bit;
+        used += 1;
     }
-    if uids != used {
-        return false;
-    }
-    tracks == different
+    uids == used && tracks == different
 }
 
-// The record of a payload, which may be any bytes at all, in a file of so many channels.
-pub fn read(payload: &[u8], channels: u64) -> Reading
+// The record of a payload, which may be any bytes at all, in a file of so many channels. A payload that breaks a rule of
+// chna is 14.
+pub fn read(payload: &[u8], channels: u64) -> Result<Chna, Refusal>
     ensures { result ≡ read_as (chna_in channels payload.now) }
 {
-    if payload.len() < 4 {
-        return Reading::Refused(Refusal::BadChna);
+    if payload.len() < 4 || (payload.len() - 4) % Chna::ENTRY != 0 {
+        return Err(Refusal::BadChna);
     }
-    let size = payload.len() - 4;
-    if size % Chna::ENTRY != 0 {
-        return Reading::Refused(Refusal::BadChna);
+    let tracks = le::read::<2>(payload, 0);
+    let uids = le::read::<2>(payload, 2);
+    let entries = &payload[4..];
+    if !whole_good(entries, tracks, uids, channels) {
+        return Err(Refusal::BadChna);
     }
-    let tracks = le::read2(payload, 0);
-    let uids = le::read2(payload, 2);
-    if !whole_good(&payload[4..], tracks, uids, channels) {
-        return Reading::Refused(Refusal::BadChna);
-    }
-    Reading::Record(Chna {
+    Ok(Chna {
         tracks,
         uids,
-        entries: (size / Chna::ENTRY) as u64,
+        entries: (entries.len() / Chna::ENTRY) as u64,
     })
 }
 
 // Entry i, counted from 0, of a payload, which may be any bytes at all. One that isn't there is not used. It judges nothing:
 // that is read's part.
-pub fn entry(payload: &[u8], i: usize) -> Entry
+pub fn entry(payload: &[u8], i: usize) -> Option<Entry>
     ensures { result ≡ value_of (entry_at i payload.now) }
 {
-    if payload.len() < 4 {
-        return Entry::unused();
-    }
-    if (payload.len() - 4) / Chna::ENTRY <= i {
-        return Entry::unused();
+    if payload.len() < 4 || (payload.len() - 4) / Chna::ENTRY <= i {
+        return None;
     }
     let at = 4 + i * Chna::ENTRY;
-    let end = at + Chna::ENTRY;
-    Entry::read(&payload[at..end])
+    Entry::read(&payload[at..at + Chna::ENTRY])
 }
 
 // Sets the pad of each whole entry of a payload to zero: its last byte, so the first stands at 43.
 fn zero_pads(payload: &mut [u8])
     ensures { payload.new ≡ pads_zeroed payload.old }
 {
-    let mut at = 43;
-    while at < payload.len() {
+    for at in (43..payload.len()).step_by(Chna::ENTRY) {
         payload[at] = 0;
-        at += Chna::ENTRY;
     }
 }
 
 // Copies a payload, which may be any bytes at all, to the start of out, the pad of each whole entry as zero. An out that is
 // too short is left as it was. It judges nothing: that is read's part.
 pub fn copy(payload: &[u8], out: &mut [u8])
-    ensures { out.new ≡ output_of out.old (fitting out.old (given (pads_zeroed payload.now))) }
+    ensures { out.new ≡ output_of out.old (fitting out.old (Ok (pads_zeroed payload.now))) }
 {
     let n = payload.len();
     if out.len() < n {
@@ -157,22 +121,27 @@ pub fn copy(payload: &[u8], out: &mut [u8])
 
 // Writes the payload of a record, whose entries are given as they stand in a payload, to the start of out. The pad of a
 // used entry may hold anything, and is written as zero. A refusal changes no byte.
-pub fn write(tracks: u64, uids: u64, entries: &[u8], channels: u64, out: &mut [u8]) -> Written
+// Kept: the counts and the entries are parameters, and no struct. Only the judgement above takes them too, and each caller has
+// them as numbers and bytes.
+pub fn write(
+    tracks: u64,
+    uids: u64,
+    entries: &[u8],
+    channels: u64,
+    out: &mut [u8],
+) -> Result<u64, Refusal>
     ensures { Writes (chna_from channels tracks uids entries.now) out.old out.new result }
 {
-    if entries.len() % Chna::ENTRY != 0 {
-        return Written::Refused(Refusal::BadRecord);
-    }
-    if !whole_good(entries, tracks, uids, channels) {
-        return Written::Refused(Refusal::BadRecord);
+    if entries.len() % Chna::ENTRY != 0 || !whole_good(entries, tracks, uids, channels) {
+        return Err(Refusal::BadRecord);
     }
     let size = 4 + entries.len();
     if out.len() < size {
-        return Written::Refused(Refusal::ShortOutput);
+        return Err(Refusal::ShortOutput);
     }
-    le::store2(out, 0, tracks);
-    le::store2(out, 2, uids);
+    le::store::<2>(out, 0, tracks);
+    le::store::<2>(out, 2, uids);
     out[4..size].copy_from_slice(entries);
     zero_pads(&mut out[..size]);
-    Written::Bytes(size as u64)
+    Ok(size as u64)
 }

@@ -1,11 +1,13 @@
 -- The laws of entries: the rules of a used one as the code tests them, and what they tell.
 -- Assumes nothing.
-use mathlib.Core.Path.{◌≡◌, refl, ap, ap₂}
+use mathlib.Core.Path.{◌≡◌, refl, sym, ap, ap₂, ◌∙◌}
 use mathlib.Core.Bool.{Bool, true, false, ◌||◌}
 use mathlib.Core.List.{List}
 use Prim.Native.Nat.{ℕ, ◌≤◌, ◌<◌}
 use native.Mathlib.Omega.{arith}
-use lib.ListN.{length, drop, length-take, length-drop}
+use lib.ListN.{length, take, drop, length-take, length-drop}
+use lib.Seq.{take-take}
+use Rattle.std.proofs.lemmas.List.{drop-take}
 use lib.Dec.{leb, ltb}
 use borrow.Author.Tests.{lt-ltb, leb-true, ltb-true}
 use Rattle.le.specs.Number.{field, number}
@@ -14,28 +16,36 @@ use Rattle.chna_entry.specs.Ids.{fits, codes, UID, TRACK, CHANNEL, PACK, NOPACK}
 use Rattle.chna_entry.specs.Entries.{Used, used_in, used_good}
 use Rattle.chna_entry.proofs.Patterns.{both, both_first, both-second, itself, fits-length, either-length}
 
--- either of two tests
-pub or-true : (a b : Bool) → a ≡ true → (a || b) ≡ true
-or-true a b e = ap (λ (t : Bool). t || b) e
-
-pub or-false : (a b : Bool) → a ≡ false → (a || b) ≡ b
-or-false a b e = ap (λ (t : Bool). t || b) e
+-- nothing is asked of the pad
+front : (e : List ℕ) → used_in (take 39 e) ≡ used_in e
+unfolding used_in number field
+front e =
+    rw (
+      drop-take 2 37 e,
+      drop-take 14 25 e,
+      drop-take 28 11 e,
+      take-take 2 39 e (omega arith),
+      take-take 12 37 (drop 2 e) (omega arith),
+      take-take 14 25 (drop 14 e) (omega arith),
+      take-take 11 11 (drop 28 e) (omega arith),
+    ) refl
 
 -- an index of 16 bits is below 65,536 anyway
-pub used-tests : (channels : ℕ) (e : List ℕ) → number 2 0 e < 65536
+pub used-tests : (channels : ℕ) (e y : List ℕ) → y ≡ take 39 e → number 2 0 y < 65536
     → used_good channels (used_in e)
-    ≡ both (leb 1 (number 2 0 e))
-    (both (leb (number 2 0 e) channels)
-    (both (fits UID (field 12 2 e))
-    (both (fits TRACK (field 14 14 e) || fits CHANNEL (field 14 14 e)) (fits PACK (field 11 28 e) || fits NOPACK (field 11 28 e)))))
+    ≡ both (leb 1 (number 2 0 y))
+    (both (leb (number 2 0 y) channels)
+    (both (fits UID (field 12 2 y))
+    (both (fits TRACK (field 14 14 y) || fits CHANNEL (field 14 14 y)) (fits PACK (field 11 28 y) || fits NOPACK (field 11 28 y)))))
 unfolding used_good used_in every
-used-tests channels e h =
-    ap₂ (λ (a b : Bool).
-    both (leb 1 (number 2 0 e))
-    (both (leb (number 2 0 e) channels)
-    (both a (both (fits UID (field 12 2 e)) (both (fits TRACK (field 14 14 e) || fits CHANNEL (field 14 14 e)) b)))))
-    (lt-ltb (number 2 0 e) 65536 h)
-    (itself (fits PACK (field 11 28 e) || fits NOPACK (field 11 28 e)))
+used-tests channels e y f h =
+    ap (used_good channels) (sym (front e) ∙ ap used_in (sym f))
+    ∙ ap₂ (λ (a b : Bool).
+    both (leb 1 (number 2 0 y))
+    (both (leb (number 2 0 y) channels)
+    (both a (both (fits UID (field 12 2 y)) (both (fits TRACK (field 14 14 y) || fits CHANNEL (field 14 14 y)) b)))))
+    (lt-ltb (number 2 0 y) 65536 h)
+    (itself (fits PACK (field 11 28 y) || fits NOPACK (field 11 28 y)))
 
 -- ---- what the rules of a used entry tell
 

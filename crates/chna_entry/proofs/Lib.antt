@@ -1,4 +1,3 @@
 pub mod Patterns
 pub mod Entries
 pub mod Parts
-pub mod Values

@@ -1,5 +1,5 @@
 -- Document 01, "chna" (002 8): an entry, and the rules of a used one.
-use Rattle.std.specs.Prelude.{ℕ, Bool, true, false, ◌||◌, List, [], ◌∷◌, length, replicate, eqb, leb, ltb}
+use Rattle.std.specs.Prelude.{ℕ, Bool, true, ◌||◌, List, [], ◌∷◌, length, Option, Some, None, eqb, leb, ltb}
 use Rattle.le.specs.Number.{field, number}
 use Rattle.le.specs.Choice.{pick, every}
 use Rattle.chna_entry.specs.declared.Entry.{Entry as Value}
@@ -55,21 +55,7 @@ unfoldable pub whole_entry : List ℕ → Entry
 unfolding pick
 whole_entry e = pick (eqb (length e) 40) (entry_in e) unused
 
--- the code's value: what a used one says, or zeros
-unfoldable pub value_of : Entry → Value
-value_of unused =
-    record {
-      used = false;
-      index = 0;
-      uid = replicate 12 0;
-      track = replicate 14 0;
-      pack = replicate 11 0;
-    }
-value_of (used u) =
-    record {
-      used = true;
-      index = u.index;
-      uid = u.uid;
-      track = u.track;
-      pack = u.pack;
-    }
+-- the code's value: what a used one says, or none
+unfoldable pub value_of : Entry → Option Value
+value_of unused = None
+value_of (used u) = Some (record { index = u.index; uid = u.uid; track = u.track; pack = u.pack })

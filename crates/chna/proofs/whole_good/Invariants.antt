@@ -1,9 +1,6 @@
--- What is known of the entries from the last one looked at on. The measure is the number of entries left.
+-- What is known of the entries from the last one looked at on.
 use Rattle.chna.proofs.Counts.{Counted}
 use Rattle.chna.proofs.whole_good.Given as goal
 
-abbrev pub invariant-loop-left : goal.invariant-loop-left
-invariant-loop-left l = Counted l.channels l.entries l.left l.marks l.different l.used
-
-abbrev pub decreases-loop-left : goal.decreases-loop-left
-decreases-loop-left l = l.left
+abbrev pub invariant-loop-i : goal.invariant-loop-i
+invariant-loop-i l = Counted l.channels l.entries l.i l.marks l.different l.used

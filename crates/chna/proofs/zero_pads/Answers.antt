@@ -14,3 +14,8 @@ loop-at-preserved c =
 pub returns : goal.returns
 returns c =
     all-zeroed _ _ _ c.loop-at.invariant (omega arith)
+
+pub returns-2 : goal.returns-2
+returns-2 c =
+    let a = c.args.payload.now in
+    all-zeroed a _ _ (one-zeroed _ _ _ c.loop-at.invariant (omega arith)) (omega arith)
