@@ -1,7 +1,7 @@
 -- A listed file: what the listing tells of its bytes, and what has to hold of them for that answer. The chain of checks is
 -- inverted link by link and built link by link, and the walk is exchanged for rows that are laid.
 -- Assumes nothing.
-use mathlib.Core.Path.{◌≡◌, refl, ◌∙◌, ap, subst}
+use mathlib.Core.Path.{◌≡◌, ◌∙◌, ap, subst}
 use mathlib.Core.Bool.{true, ◌||◌}
 use mathlib.Core.List.{List}
 use Prim.Native.Nat.{ℕ, ◌≤◌, ◌<◌}
@@ -9,19 +9,17 @@ use lib.ListN.{length}
 use lib.Dec.{eqb, leb, ltb}
 use borrow.Author.Tests.{le-leb, leb-true, eq-eqb, ne_eqb, eqb-true, eqb-false, lt-ltb, ltb-true}
 use Rattle.chunk.specs.declared.Entry.{Entry}
-use Rattle.chunk.specs.declared.Verdict.{Verdict}
-use Rattle.chunk.specs.declared.Verdict.TheVariants.{Accepted, Refused}
-use Rattle.chunk.specs.Refusals.{given}
+use Rattle.chunk.specs.declared.Refusal.TheVariants.{BadChunkSet}
+use Rattle.chunk.specs.Refusals.{Ok, check}
 use Rattle.chunk.specs.Names.{FMT, DATA, FACT, BEXT, CHNA}
 use Rattle.chunk.specs.Tables.{count, find, LIMIT}
 use Rattle.chunk.specs.Walks.{Walked}
-use Rattle.chunk.proofs.Checks.{given-inj, refused-given, check-given, check-true, and_then-given, and_then-at, rule_and, or-true, or-false}
+use Rattle.chunk.proofs.Checks.{given-inj, check-given, check-true, and_then-given, and_then-at, rule_and, or-true, or-false}
 use Rattle.chunk.proofs.Laid.{Laid, walk-laid, laid-walk}
-use Rattle.form.specs.declared.Head.{Head}
 use Rattle.form.specs.Forms.{head_of}
 use Rattle.form.proofs.Heads.{Opened, head_opened, opened-head}
 use Rattle.truesize.specs.Sizes.{true_size, entries_of}
-use Rattle.listing.specs.Listings.{ended_as, chunks_good, Listing, headers, listing}
+use Rattle.listing.specs.Listings.{chunks_good, Listing, headers, listing}
 
 -- ---- check 10
 
@@ -78,35 +76,21 @@ pub record Checked (s : List ℕ) (l : Listing) : Type 0 where
   pub few : length l.rows ≤ LIMIT
   pub chunked : Chunked l.rows
 
-ended : (v : Verdict) (rows shown : List Entry) → ended_as v shown ≡ given rows → (v ≡ Accepted) × (shown ≡ rows)
-unfolding ended_as
-ended Accepted rows shown e = (refl, given-inj shown rows e)
-ended (Refused r) rows shown e = absurd (refused-given r rows e)
-
-pub listing-checked : (s : List ℕ) (l : Listing) → listing s ≡ given l → Checked s l
+pub listing-checked : (s : List ℕ) (l : Listing) → listing s ≡ Ok l → Checked s l
 unfolding listing headers
 listing-checked s l e =
     let c1 = and_then-given (head_of s) _ l e in
-    let c2 = and_then-given (ended_as (headers c1.0 s).end (headers c1.0 s).rows) _ l c1.2 in
-    let c3 = check-given (chunks_good c2.0) _ _ l c2.2 in
-    gather c1.0 c2.0 c1.1 (ended _ _ _ c2.1) c3.0 (given-inj _ _ c3.1)
-  where
-    gather : (h : Head) (rows : List Entry) → head_of s ≡ given h → ((headers h s).end ≡ Accepted) × ((headers h s).rows ≡ rows)
-        → chunks_good rows ≡ true → record { head = h; rows = rows } ≡ l → Checked s l
-    gather h rows head walks good is =
-        let w = walk-laid (true_size h (entries_of h s)) s LIMIT 12 walks.0 in
-        subst (Checked s) is
-        (record {
-          opened = head_opened s h head;
-          laid = subst (Laid (true_size h (entries_of h s)) s 12) walks.1 w.laid;
-          few = subst (λ (r : List Entry). length r ≤ LIMIT) walks.1 w.few;
-          chunked = good-chunked rows good;
-        })
+    let c2 = and_then-given (headers c1.0 s).end _ l c1.2 in
+    let c3 = check-given (chunks_good (headers c1.0 s).rows) _ _ l c2.2 in
+    let w = walk-laid (true_size c1.0 (entries_of c1.0 s)) s LIMIT 12 c2.1 in
+    subst (Checked s) (given-inj _ _ c3.1)
+    (record { opened = head_opened s c1.0 c1.1; laid = w.laid; few = w.few; chunked = good-chunked _ c3.0 })
 
-pub checked-listing : (s : List ℕ) (l : Listing) → Checked s l → listing s ≡ given l
-unfolding listing headers ended_as
+pub checked-listing : (s : List ℕ) (l : Listing) → Checked s l → listing s ≡ Ok l
+unfolding listing headers
 checked-listing s l h =
+    let walked = laid-walk LIMIT h.laid h.few in
     and_then-at (head_of s) _ l.head (opened-head s l.head h.opened)
-    ∙ and_then-at (ended_as (headers l.head s).end (headers l.head s).rows) _ l.rows
-    (ap (λ (w : Walked). ended_as w.end w.rows) (laid-walk LIMIT h.laid h.few))
+    ∙ and_then-at (headers l.head s).end _ tt (ap (λ (w : Walked). w.end) walked)
+    ∙ ap (λ (w : Walked). check (chunks_good w.rows) BadChunkSet (Ok (record { head = l.head; rows = w.rows }))) walked
     ∙ check-true (chunks_good l.rows) _ _ (chunked-good l.rows h.chunked)

@@ -7,22 +7,20 @@ use mathlib.Core.Bool.{Bool, true, false, not, ◌&&◌}
 use mathlib.Core.List.{List, ◌∷◌}
 use Prim.Native.Nat.{ℕ, zero, suc, ◌+◌, ◌-◌, ◌*◌, ◌/◌, ◌%◌, ◌^◌, ◌≤◌, ◌<◌}
 use native.Mathlib.Omega.{arith}
+use Rattle.std.proofs.Common.{rules}
 use lib.ListN.{length, get_or}
 use lib.Dec.{eqb, ltb, leb}
-use borrow.Author.Tests.{eq-eqb, ne_eqb, lt-ltb, le-ltb, le-leb, lt-leb, leb-true, not-true}
+use borrow.Author.Tests.{le-leb, lt-leb, leb-true, not-true}
 use Rattle.le.specs.Number.{Bytes, number}
 use Rattle.le.specs.Choice.{pick}
 use Rattle.le.proofs.Laws.{number-split, number-one}
 use Rattle.chunk.specs.declared.Entry.{Entry}
 use Rattle.chunk.specs.declared.Header.{Header}
-use Rattle.chunk.specs.declared.Refusal.{Refusal}
-use Rattle.chunk.specs.declared.Refusal.TheVariants.{CutHeader, TooMany}
-use Rattle.chunk.specs.declared.Verdict.{Verdict}
-use Rattle.chunk.specs.declared.Verdict.TheVariants as verdict
+use Rattle.chunk.specs.declared.Refusal.TheVariants.{TooMany}
 use Rattle.chunk.specs.declared.Step.{Step}
 use Rattle.chunk.specs.declared.Step.TheVariants as step
 use Rattle.chunk.specs.declared.TrueSize.{TrueSize}
-use Rattle.chunk.specs.Refusals.{Answer, refused, given}
+use Rattle.chunk.specs.Refusals.{Answer, Verdict, Err, Ok}
 use Rattle.chunk.specs.Names.{FMT, DATA, FACT, BEXT, CHNA, DS64}
 use Rattle.chunk.specs.Fields.{ONES}
 use Rattle.chunk.specs.Tables.{LIMIT}
@@ -37,131 +35,36 @@ use Rattle.form.specs.Code.{place_of, room_of, second}
 use Rattle.form.proofs.Heads.{head_opened, wide-head, ds64-rules}
 use Rattle.truesize.specs.Code.{Past}
 use Rattle.truesize.proofs.Sizes.{true-own}
-use Rattle.listing.specs.declared.Payload.{Payload}
 use Rattle.listing.specs.declared.tally.Tally.{Tally}
 use Rattle.listing.specs.declared.headers.Passed.{Passed}
-use Rattle.listing.specs.declared.headers.Tallied.TheVariants as tallied
-use Rattle.listing.specs.Code.{payload_of, changes, counts, heavy, weight, noted, all_noted, no_tally, Small, facts_of, tally_good, Near, next_of, passes, passed_from, Nears, rule, Begins, tally_as}
+use Rattle.listing.specs.Code.{payload_of, changes, counts, heavy, weight, noted, all_noted, no_tally, Small, tally_good, Near, next_of, passes, passed_from, Nears, rule, Begins, tally_as}
 
 -- ---- one chunk more
 
-abbrev made : (met : ℕ) (fmt audio : Payload) (fact : ℕ) → Tally
-made met fmt audio fact = record { met = met; fmt = fmt; audio = audio; fact = fact }
+-- a chunk of another name changes nothing
+pub note-none : (t : Tally) (e : Entry) → (e.name ≡ FMT → ⊥) → (e.name ≡ DATA → ⊥) → (e.name ≡ FACT → ⊥) → (e.name ≡ BEXT → ⊥)
+    → (e.name ≡ CHNA → ⊥) → t ≡ noted t e
+unfolding noted weight heavy counts changes payload_of pick
+note-none t e a b c d f = search rules
 
-module _ (t : Tally) (e : Entry) where
-  -- the tally by which of the names the chunk has
-  by : Bool → Bool → Bool → Bool → Bool → Tally
-  by a b c d f =
-      made (t.met + (pick a 1 0 + 2 ^ 8 * pick b 1 0 + 2 ^ 16 * pick c (heavy e) 0 + 2 ^ 24 * pick d 1 0 + 2 ^ 32 * pick f 1 0))
-      (pick a (payload_of e) t.fmt) (pick b (payload_of e) t.audio) (pick c e.place t.fact)
+-- ---- check 10
 
-  noted-by : (a b c d f : Bool) → eqb e.name FMT ≡ a → eqb e.name DATA ≡ b → eqb e.name FACT ≡ c → eqb e.name BEXT ≡ d
-      → eqb e.name CHNA ≡ f → noted t e ≡ by a b c d f
-  unfolding noted weight counts changes by
-  noted-by a b c d f p q r u v = λ i. by (p i) (q i) (r i) (u i) (v i)
-
-  is : (name : ℕ) → e.name ≡ name → eqb e.name name ≡ true
-  is name p = eq-eqb e.name name p
-
-  other : (name : ℕ) → (e.name ≡ name → ⊥) → eqb e.name name ≡ false
-  other name n = ne_eqb e.name name n
-
-  pub note-fmt : e.name ≡ FMT → made (t.met + 1) (payload_of e) t.audio t.fact ≡ noted t e
-  unfolding by pick payload_of
-  note-fmt p =
-      sym (noted-by true false false false false (is FMT p) (other DATA (omega (arith, p))) (other FACT (omega (arith, p)))
-      (other BEXT (omega (arith, p))) (other CHNA (omega (arith, p))))
-
-  pub note-data : e.name ≡ DATA → made (t.met + 2 ^ 8) t.fmt (payload_of e) t.fact ≡ noted t e
-  unfolding by pick payload_of
-  note-data p =
-      sym (noted-by false true false false false (other FMT (omega (arith, p))) (is DATA p) (other FACT (omega (arith, p)))
-      (other BEXT (omega (arith, p))) (other CHNA (omega (arith, p))))
-
-  -- a fact counts once, or twice
-  noted-fact : (m : ℕ) → e.name ≡ FACT → m ≡ t.met + 2 ^ 16 * heavy e → made m t.fmt t.audio e.place ≡ noted t e
-  unfolding by pick
-  noted-fact m p w =
-      let k : m ≡ t.met + (0 + 2 ^ 8 * 0 + 2 ^ 16 * heavy e + 2 ^ 24 * 0 + 2 ^ 32 * 0) = omega (arith, w) in
-      ap (λ (n : ℕ). made n t.fmt t.audio e.place) k
-      ∙ sym (noted-by false false true false false (other FMT (omega (arith, p))) (other DATA (omega (arith, p))) (is FACT p)
-      (other BEXT (omega (arith, p))) (other CHNA (omega (arith, p))))
-
-  pub note-fact : e.name ≡ FACT → 4 ≤ e.size → made (t.met + 2 ^ 16) t.fmt t.audio e.place ≡ noted t e
-  unfolding heavy
-  note-fact p h = let k : heavy e ≡ 1 = pick-false _ _ _ (le-ltb e.size 4 h) in noted-fact _ p (omega (arith, k))
-
-  pub note-short : e.name ≡ FACT → e.size < 4 → made (t.met + 2 ^ 16 + 2 ^ 16) t.fmt t.audio e.place ≡ noted t e
-  unfolding heavy
-  note-short p h = let k : heavy e ≡ 2 = pick_true _ _ _ (lt-ltb e.size 4 h) in noted-fact _ p (omega (arith, k))
-
-  pub note-bext : e.name ≡ BEXT → made (t.met + 2 ^ 24) t.fmt t.audio t.fact ≡ noted t e
-  unfolding by pick
-  note-bext p =
-      sym (noted-by false false false true false (other FMT (omega (arith, p))) (other DATA (omega (arith, p)))
-      (other FACT (omega (arith, p))) (is BEXT p) (other CHNA (omega (arith, p))))
-
-  pub note-chna : e.name ≡ CHNA → made (t.met + 2 ^ 32) t.fmt t.audio t.fact ≡ noted t e
-  unfolding by pick
-  note-chna p =
-      sym (noted-by false false false false true (other FMT (omega (arith, p))) (other DATA (omega (arith, p)))
-      (other FACT (omega (arith, p))) (other BEXT (omega (arith, p))) (is CHNA p))
-
-  -- a chunk of another name changes nothing
-  pub note-none : (e.name ≡ FMT → ⊥) → (e.name ≡ DATA → ⊥) → (e.name ≡ FACT → ⊥) → (e.name ≡ BEXT → ⊥) → (e.name ≡ CHNA → ⊥)
-      → t ≡ noted t e
-  unfolding by pick
-  note-none a b c d f =
-      let k : t.met ≡ t.met + 0 = omega arith in
-      ap (λ (n : ℕ). made n t.fmt t.audio t.fact) k
-      ∙ sym (noted-by false false false false false (other FMT a) (other DATA b) (other FACT c) (other BEXT d) (other CHNA f))
-
--- ---- check 10, test by test
-
-module _ (t : Tally) where
-  pub no-pair : (t.met % 2 ^ 16 ≡ 1 + 2 ^ 8 → ⊥) → false ≡ tally_good t
-  unfolding tally_good
-  no-pair a = sym (pick-false _ _ _ (ne_eqb (t.met % 2 ^ 16) (1 + 2 ^ 8) a))
-
-  module _ (a : t.met % 2 ^ 16 ≡ 1 + 2 ^ 8) where
-    pub no-order : t.audio.place ≤ t.fmt.place → false ≡ tally_good t
-    unfolding tally_good
-    no-order c = rw (eq-eqb (t.met % 2 ^ 16) (1 + 2 ^ 8) a, le-ltb t.fmt.place t.audio.place c)
-
-    module _ (c : t.fmt.place < t.audio.place) where
-      pub no_bext : 1 < t.met / 2 ^ 24 % 2 ^ 8 → false ≡ tally_good t
-      unfolding tally_good
-      no_bext d =
-          rw (
-            eq-eqb (t.met % 2 ^ 16) (1 + 2 ^ 8) a,
-            lt-ltb t.fmt.place t.audio.place c,
-            lt-leb (t.met / 2 ^ 24 % 2 ^ 8) 1 d,
-          )
-
-      module _ (d : t.met / 2 ^ 24 % 2 ^ 8 ≤ 1) where
-        pub no_chna : 1 < t.met / 2 ^ 32 → false ≡ tally_good t
-        unfolding tally_good
-        no_chna f =
-            rw (
-              eq-eqb (t.met % 2 ^ 16) (1 + 2 ^ 8) a,
-              lt-ltb t.fmt.place t.audio.place c,
-              le-leb (t.met / 2 ^ 24 % 2 ^ 8) 1 d,
-              lt-leb (t.met / 2 ^ 32) 1 f,
-            )
-
-        pub by-fact : t.met / 2 ^ 32 ≤ 1 → leb (facts_of t) 1 ≡ tally_good t
-        unfolding tally_good
-        by-fact f =
-            rw (
-              eq-eqb (t.met % 2 ^ 16) (1 + 2 ^ 8) a,
-              lt-ltb t.fmt.place t.audio.place c,
-              le-leb (t.met / 2 ^ 24 % 2 ^ 8) 1 d,
-              le-leb (t.met / 2 ^ 32) 1 f,
-            ) (only (leb (facts_of t) 1))
-          where
-            only : (k : Bool) → k ≡ pick k true false
-            only true = refl
-            only false = refl
+-- its rules, joined
+pub good-and : (t : Tally) → tally_good t
+    ≡ eqb (t.met % 2 ^ 16) (1 + 2 ^ 8) && (ltb t.fmt.place t.audio.place && (leb (t.met / 2 ^ 24 % 2 ^ 8) 1
+    && (leb (t.met / 2 ^ 32) 1 && leb (t.met / 2 ^ 16 % 2 ^ 8) 1)))
+unfolding tally_good pick
+good-and t =
+    go (eqb (t.met % 2 ^ 16) (1 + 2 ^ 8)) (ltb t.fmt.place t.audio.place) (leb (t.met / 2 ^ 24 % 2 ^ 8) 1)
+    (leb (t.met / 2 ^ 32) 1) (leb (t.met / 2 ^ 16 % 2 ^ 8) 1)
+  where
+    go : (a b c d e : Bool) → pick a (pick b (pick c (pick d (pick e true false) false) false) false) false ≡ a && (b && (c && (d && e)))
+    go true true true true true = refl
+    go true true true true false = refl
+    go true true true false e = refl
+    go true true false d e = refl
+    go true false c d e = refl
+    go false b c d e = refl
 
 -- ---- counts are small
 
@@ -292,46 +195,18 @@ module _ (s : List ℕ) (near : ℕ) where
 tally-rows : (f : Header) (n : ℕ) (t : Tally) (e : Entry) (rows : List Entry) (v : Verdict)
     → tally_as f n t (record { rows = e ∷ rows; end = v }) ≡ tally_as f (n + 1) (noted t e) (record { rows = rows; end = v })
 unfolding tally_as all_noted
-tally-rows f n t e rows verdict.Accepted =
-    ap (λ (k : ℕ). tallied.Noted (record { tally = all_noted (noted t e) rows; first = f; count = k })) (omega arith)
-tally-rows f n t e rows (verdict.Refused r) = refl
+tally-rows f n t e rows (Ok a) =
+    ap (λ (k : ℕ). Ok (record { tally = all_noted (noted t e) rows; first = f; count = k })) (omega arith)
+tally-rows f n t e rows (Err r) = refl
 
 -- the walk's first row is noted
 pub tally-chunk : (f : Header) (n : ℕ) (t : Tally) (e : Entry) (w : Walked)
     → tally_as f n t (record { rows = e ∷ w.rows; end = w.end }) ≡ tally_as f (n + 1) (noted t e) w
 tally-chunk f n t e w = tally-rows f n t e w.rows w.end
 
-pub tally-full : (f : Header) (n : ℕ) (t : Tally) (at : ℕ) → tally_as f n t (full at) ≡ tallied.Refused TooMany
+pub tally-full : (f : Header) (n : ℕ) (t : Tally) (at : ℕ) → tally_as f n t (full at) ≡ Err TooMany
 unfolding tally_as full
 tally-full f n t at = refl
-
--- ---- the step after which no header may come
-
-module _ (f : Header) (n : ℕ) (t : Tally) (x : Step) where
-  pub last-chunk : (e : Entry) (to : ℕ) → x ≡ step.Chunk e to → tallied.Refused TooMany ≡ tally_as f n t (walk_after x full)
-  unfolding tally_as walk_after full
-  last-chunk e to q = rw q
-
-  pub last-last : (e : Entry) (u : Tally) → x ≡ step.Last e → u ≡ noted t e
-      → tallied.Noted (record { tally = u; first = f; count = n + 1 }) ≡ tally_as f n t (walk_after x full)
-  unfolding tally_as walk_after all_noted
-  last-last e u q p = rw (q, p)
-
-  pub last-cut : (e : Entry) → x ≡ step.Cut e → tallied.Refused CutHeader ≡ tally_as f n t (walk_after x full)
-  unfolding tally_as walk_after
-  last-cut e q = rw q
-
-  pub last-stop : (r : Refusal) → x ≡ step.Stop r → tallied.Refused r ≡ tally_as f n t (walk_after x full)
-  unfolding tally_as walk_after
-  last-stop r q = rw q
-
--- a step that is no chunk ends the walk, wherever it would go on
-pub ends-alike : (x : Step) (rest more : ℕ → Walked) → ((e : Entry) (to : ℕ) → x ≡ step.Chunk e to → ⊥) → walk_after x rest ≡ walk_after x more
-unfolding walk_after
-ends-alike (step.Chunk e to) rest more n = absurd (n e to refl)
-ends-alike (step.Last e) rest more n = refl
-ends-alike (step.Cut e) rest more n = refl
-ends-alike (step.Stop r) rest more n = refl
 
 -- ---- passed chunks change nothing
 
@@ -462,8 +337,8 @@ turn_on r s place e to q = go (r (place - 8) (number 4 (place - 8) s) (number 4 
     P x = x ≡ step.Chunk e to → place ≤ to
 
     go : (x : Answer TrueSize) → found_as (length s) place (number 4 (place - 8) s) x ≡ step.Chunk e to → place ≤ to
-    go (refused z) p = absurd (let z : ◌≡◌ {A = ℕ} 0 1 = cc in omega arith)
-    go (given size) p =
+    go (Err z) p = absurd (let z : ◌≡◌ {A = ℕ} 0 1 = cc in omega arith)
+    go (Ok size) p =
         let f : Entry = entry_of place (number 4 (place - 8) s) size in
         (picked P (leb (past f + 8) (length s)) _ _ (λ _ p. let t : past f + 8 ≡ to = cc in omega (arith, t)) λ _.
         picked P (ltb (length s) (past f)) _ _ (λ _ p. absurd (let z : ◌≡◌ {A = ℕ} 0 1 = cc in omega arith)) λ _.
@@ -494,18 +369,16 @@ module _ (h : Head) (s : List ℕ) (near : ℕ) (f : Header) (place₀ room₀ p
       let r : room ≡ suc (room - 1) = omega arith in
       ap (λ (n : ℕ). walk (rule h s) s n (place - 8)) r ∙ turn (rule h s) s (room - 1) place g.past.due
 
-  -- the walk ends here
-  pub going-last : (x : Step) → 1 ≤ room → x ≡ step_on (rule h s) s place → ((e : Entry) (to : ℕ) → x ≡ step.Chunk e to → ⊥)
-      → tally_as f (LIMIT - room) t (walk_after x full) ≡ tally_as f (LIMIT - room₀) no_tally (walk (rule h s) s room₀ (place₀ - 8))
-  going-last x k e n =
-      ap (tally_as f (LIMIT - room) t)
-      (ends-alike x full (walk (rule h s) s (room - 1)) n
-      ∙ ap (λ (y : Step). walk_after y (walk (rule h s) s (room - 1))) e
-      ∙ sym (turned k))
+  -- the step says what is tallied
+  pub going-step : (x : Step) → 1 ≤ room → x ≡ step_on (rule h s) s place
+      → tally_as f (LIMIT - room) t (walk_after x (walk (rule h s) s (room - 1)))
+      ≡ tally_as f (LIMIT - room₀) no_tally (walk (rule h s) s room₀ (place₀ - 8))
+  going-step x k e =
+      ap (tally_as f (LIMIT - room) t) (ap (λ (y : Step). walk_after y (walk (rule h s) s (room - 1))) e ∙ sym (turned k))
       ∙ g.same
 
   -- no header more may come
-  pub going-full : room ≡ 0 → tallied.Refused TooMany ≡ tally_as f (LIMIT - room₀) no_tally (walk (rule h s) s room₀ (place₀ - 8))
+  pub going-full : room ≡ 0 → Err TooMany ≡ tally_as f (LIMIT - room₀) no_tally (walk (rule h s) s room₀ (place₀ - 8))
   going-full e =
       let d = g.past.due in
       sym (tally-full f (LIMIT - room) t (place - 8))
@@ -552,7 +425,3 @@ module _ (h : Head) (s : List ℕ) (near : ℕ) (f : Header) (place₀ room₀ p
         },
         omega (arith, z.few),
       )))
-
-pub going-small : {h : Head} {s : List ℕ} {near : ℕ} {f : Header} {place₀ room₀ place room : ℕ} {t : Tally}
-    → Going h s near f place₀ room₀ place room t → Small t
-going-small g = below-small _ _ (omega arith) g.below

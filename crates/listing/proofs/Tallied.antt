@@ -4,6 +4,7 @@
 use mathlib.Core.Path.{◌≡◌, refl, sym, ap, ap₂, ◌∙◌}
 use mathlib.Core.Bool.{Bool, true, false, ◌||◌}
 use mathlib.Core.List.{List, [], ◌∷◌}
+use Rattle.std.specs.Prelude.{Some, None}
 use Prim.Native.Nat.{ℕ, zero, suc, ◌+◌, ◌*◌, ◌/◌, ◌%◌, ◌^◌, ◌≤◌, ◌<◌}
 use native.Mathlib.Omega.{arith}
 use lib.ListN.{length}
@@ -16,9 +17,8 @@ use Rattle.chunk.specs.Tables.{count, find, LIMIT}
 use Rattle.chunk.proofs.Checks.{picked, pick_true, pick-false}
 use Rattle.listing.specs.declared.Payload.{Payload}
 use Rattle.listing.specs.declared.tally.Tally.{Tally}
-use Rattle.listing.specs.declared.Fact.TheVariants as fact
 use Rattle.listing.specs.Listings.{chunks_good}
-use Rattle.listing.specs.Code.{payload_of, changes, counts, heavy, weight, noted, all_noted, no_tally, facts_of, tally_good, fact_of, fact_in}
+use Rattle.listing.specs.Code.{payload_of, changes, counts, heavy, weight, noted, all_noted, no_tally, tally_good, fact_in}
 use Rattle.listing.proofs.Passing.{note-none}
 
 -- ---- one name
@@ -140,7 +140,7 @@ unfolding all_noted noted kept
 noted-audio t [] = refl
 noted-audio t (e ∷ es) = noted-audio (noted t e) es
 
-noted-fact : (t : Tally) (rows : List Entry) → (all_noted t rows).fact ≡ kept FACT (λ x e. e.place) t.fact rows
+noted-fact : (t : Tally) (rows : List Entry) → (all_noted t rows).fact ≡ kept FACT (λ x e. Some e.place) t.fact rows
 unfolding all_noted noted kept
 noted-fact t [] = refl
 noted-fact t (e ∷ es) = noted-fact (noted t e) es
@@ -161,8 +161,15 @@ module _ (rows : List Entry) where
   pub all-audio : count DATA rows ≡ 1 → all.audio ≡ payload_of (find DATA rows)
   all-audio h = noted-audio no_tally rows ∙ kept-one DATA _ _ rows h
 
-  all-fact : count FACT rows ≡ 1 → all.fact ≡ (find FACT rows).place
-  all-fact h = noted-fact no_tally rows ∙ kept-one FACT _ _ rows h
+  -- where there is no second fact
+  pub all-fact : count FACT rows ≤ 1 → all.fact ≡ fact_in rows
+  unfolding fact_in pick no_tally
+  all-fact few = go (count FACT rows) refl few
+    where
+      go : (n : ℕ) → count FACT rows ≡ n → n ≤ 1 → all.fact ≡ pick (eqb n 0) None (Some (find FACT rows).place)
+      go zero h k = noted-fact no_tally rows ∙ kept-none FACT _ _ rows h
+      go (suc zero) h k = noted-fact no_tally rows ∙ kept-one FACT _ _ rows h
+      go (suc (suc n)) h k = absurd (omega arith)
 
 -- ---- check 10
 
@@ -248,20 +255,3 @@ tally-good rows few =
     rules _ _ _ _ (ap (λ (n : ℕ). leb n 1) c.bexts) λ _.
     rules _ _ _ _ (ap (λ (n : ℕ). leb n 1) c.chnas) λ _.
     ap (λ (n : ℕ). pick (leb n 1) true false) c.facts ∙ facts-good rows)
-
--- where there is no second fact, fact of the tally is fact of the rows
-pub tally-fact : (rows : List Entry) → length rows ≤ LIMIT → count FACT rows ≤ 1 → fact_of (all_noted no_tally rows) ≡ fact_in rows
-unfolding fact_of fact_in pick
-tally-fact rows few = go (count FACT rows) refl
-  where
-    met : ℕ
-    met = facts_of (all_noted no_tally rows)
-
-    go : (n : ℕ) → count FACT rows ≡ n → n ≤ 1
-        → pick (eqb met 0) fact.None (fact.At (all_noted no_tally rows).fact) ≡ pick (eqb n 0) fact.None (fact.At (find FACT rows).place)
-    go zero h k = pick_true (eqb met 0) _ _ (eq-eqb met 0 ((all-counts rows few).facts ∙ total-none FACT heavy rows h))
-    go (suc zero) h k =
-        pick-false (eqb met 0) _ _
-        (ne_eqb met 0 (λ z. omega (arith, z, (all-counts rows few).facts, total-least FACT heavy rows heavy-least, h)))
-        ∙ ap fact.At (all-fact rows h)
-    go (suc (suc n)) h k = absurd (omega arith)

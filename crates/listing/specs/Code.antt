@@ -1,14 +1,12 @@
 -- What the code alone needs: what the listing keeps of the chunks in place of their table, and the parts that it is made of.
-use Rattle.std.specs.Prelude.{ℕ, zero, suc, ◌+◌, ◌-◌, ◌*◌, ◌/◌, ◌%◌, ◌^◌, ◌≤◌, ◌<◌, ◌≡◌, Bool, not, ◌&&◌, List, [], ◌∷◌, length, get_or, eqb, leb, ltb}
+use Rattle.std.specs.Prelude.{ℕ, zero, suc, ◌+◌, ◌-◌, ◌*◌, ◌/◌, ◌%◌, ◌^◌, ◌≤◌, ◌<◌, ◌≡◌, Bool, not, ◌&&◌, Option, None, Some, List, [], ◌∷◌, length, get_or, eqb, leb, ltb}
 use Rattle.le.specs.Number.{number}
 use Rattle.le.specs.Choice.{pick, every}
 use Rattle.chunk.specs.declared.Entry.{Entry}
 use Rattle.chunk.specs.declared.Header.{Header}
 use Rattle.chunk.specs.declared.Refusal.{Refusal}
 use Rattle.chunk.specs.declared.Refusal.TheVariants.{BadChunkSet, CutHeader}
-use Rattle.chunk.specs.declared.Verdict.{Verdict}
-use Rattle.chunk.specs.declared.Verdict.TheVariants as verdict
-use Rattle.chunk.specs.Refusals.{Answer, refused, given}
+use Rattle.chunk.specs.Refusals.{Answer, Verdict, Err, Ok, check}
 use Rattle.chunk.specs.Names.{FMT, DATA, FACT, BEXT, CHNA}
 use Rattle.chunk.specs.Fields.{ONES}
 use Rattle.chunk.specs.Tables.{count, find}
@@ -21,15 +19,9 @@ use Rattle.form.specs.Code.{place_of, room_of}
 use Rattle.truesize.specs.Sizes.{true_size, entries_of}
 use Rattle.listing.specs.declared.Payload.{Payload}
 use Rattle.listing.specs.declared.tally.Tally.{Tally}
-use Rattle.listing.specs.declared.Fact.{Fact}
-use Rattle.listing.specs.declared.Fact.TheVariants as fact
 use Rattle.listing.specs.declared.headers.Passed.{Passed}
 use Rattle.listing.specs.declared.headers.Noted.{Noted}
-use Rattle.listing.specs.declared.headers.Tallied.{Tallied}
-use Rattle.listing.specs.declared.headers.Tallied.TheVariants as tallied
 use Rattle.listing.specs.declared.Listing as code
-use Rattle.listing.specs.declared.Listed.{Listed}
-use Rattle.listing.specs.declared.Listed.TheVariants as listed
 use Rattle.listing.specs.Listings.{Listing, listing}
 
 -- ---- the tally
@@ -66,7 +58,7 @@ noted t e =
       met = t.met + weight e;
       fmt = changes FMT e (payload_of e) t.fmt;
       audio = changes DATA e (payload_of e) t.audio;
-      fact = changes FACT e e.place t.fact;
+      fact = changes FACT e (Some e.place) t.fact;
     }
 
 unfoldable pub all_noted : Tally → List Entry → Tally
@@ -74,14 +66,11 @@ all_noted t [] = t
 all_noted t (e ∷ es) = all_noted (noted t e) es
 
 unfoldable pub no_tally : Tally
-no_tally = record { met = 0; fmt = record { place = 0; size = 0 }; audio = record { place = 0; size = 0 }; fact = 0 }
+no_tally = record { met = 0; fmt = record { place = 0; size = 0 }; audio = record { place = 0; size = 0 }; fact = None }
 
 -- the counts of a tally are not near 2 ^ 64
 pub record Small (t : Tally) : Type 0 where
   pub met : t.met < 2 ^ 48
-
-abbrev pub facts_of : Tally → ℕ
-facts_of t = t.met / 2 ^ 16 % 2 ^ 8
 
 -- check 10 of a tally: one fmt and one data, fmt first, and at most one of each other
 unfoldable pub tally_good : Tally → Bool
@@ -92,12 +81,8 @@ tally_good t =
     ∷ ltb t.fmt.place t.audio.place
     ∷ leb (t.met / 2 ^ 24 % 2 ^ 8) 1
     ∷ leb (t.met / 2 ^ 32) 1
-    ∷ leb (facts_of t) 1
+    ∷ leb (t.met / 2 ^ 16 % 2 ^ 8) 1
     ∷ [])
-
-unfoldable pub fact_of : Tally → Fact
-unfolding pick
-fact_of t = pick (eqb (facts_of t) 0) fact.None (fact.At t.fact)
 
 -- ---- the walk
 
@@ -137,24 +122,25 @@ rest_of o s = walk (rule o.head s) s o.room (o.place - 8)
 
 -- a good head, and a whole header past ds64
 pub record Begins (s : List ℕ) (o : Start) : Type 0 where
-  pub head : head_of s ≡ given o.head
+  pub head : head_of s ≡ Ok o.head
   pub place : o.place ≡ place_of o.head.form s
   pub room : o.room ≡ room_of o.head.form
   pub whole : o.place ≤ length s
 
 -- what a walk to the end has noted
-unfoldable pub tally_as : Header → ℕ → Tally → Walked → Tallied
+unfoldable pub tally_as : Header → ℕ → Tally → Walked → Answer Noted
 tally_as first n t w = ended w.end
   where
-    ended : Verdict → Tallied
-    ended verdict.Accepted = tallied.Noted (record { tally = all_noted t w.rows; first = first; count = n + length w.rows })
-    ended (verdict.Refused r) = tallied.Refused r
+    ended : Verdict → Answer Noted
+    ended (Ok a) = Ok (record { tally = all_noted t w.rows; first = first; count = n + length w.rows })
+    ended (Err r) = Err r
 
 -- ---- the listing
 
-unfoldable pub fact_in : List Entry → Fact
+-- where fact's payload starts, if there is a fact
+unfoldable pub fact_in : List Entry → Option ℕ
 unfolding pick
-fact_in rows = pick (eqb (count FACT rows) 0) fact.None (fact.At (find FACT rows).place)
+fact_in rows = pick (eqb (count FACT rows) 0) None (Some (find FACT rows).place)
 
 -- what the code keeps of a listing
 unfoldable pub kept_of : List ℕ → Listing → code.Listing
@@ -168,29 +154,28 @@ kept_of s l =
       count = length l.rows;
     }
 
-unfoldable pub listed_as : List ℕ → Answer Listing → Listed
-listed_as s (refused r) = listed.Refused r
-listed_as s (given l) = listed.Listing (kept_of s l)
+unfoldable pub listed_as : List ℕ → Answer Listing → Answer code.Listing
+listed_as s (Err r) = Err r
+listed_as s (Ok l) = Ok (kept_of s l)
 
 -- what is kept of a listing is what the listing of this file finds now
 abbrev pub Fresh : List ℕ → code.Listing → Type 0
-Fresh s k = listed_as s (listing s) ≡ listed.Listing k
+Fresh s k = listed_as s (listing s) ≡ Ok k
 
 -- check 10
-unfoldable pub chunks_as : Head → Noted → Listed
-unfolding pick
+unfoldable pub chunks_as : Head → Noted → Answer code.Listing
+unfolding check
 chunks_as h n =
-    pick (tally_good n.tally)
-    (listed.Listing
+    check (tally_good n.tally) BadChunkSet
+    (Ok
     (record {
       head = h;
       first = n.first;
       fmt = n.tally.fmt;
       audio = n.tally.audio;
-      fact = fact_of n.tally;
+      fact = n.tally.fact;
       count = n.count;
     }))
-    (listed.Refused BadChunkSet)
 
 -- no whole header past ds64
 unfoldable pub bare_as : ℕ → ℕ → Refusal

@@ -3,20 +3,13 @@ use Rattle.std.specs.Prelude.{ℕ, Bool, ◌||◌, List, [], ◌∷◌, eqb, leb
 use Rattle.le.specs.Choice.{every}
 use Rattle.chunk.specs.declared.Entry.{Entry}
 use Rattle.chunk.specs.declared.Refusal.TheVariants.{BadChunkSet}
-use Rattle.chunk.specs.declared.Verdict.{Verdict}
-use Rattle.chunk.specs.declared.Verdict.TheVariants.{Accepted, Refused}
-use Rattle.chunk.specs.Refusals.{Answer, refused, given, check, and_then}
+use Rattle.chunk.specs.Refusals.{Answer, Ok, check, and_then}
 use Rattle.chunk.specs.Names.{FMT, DATA, FACT, BEXT, CHNA}
 use Rattle.chunk.specs.Tables.{count, find, LIMIT}
 use Rattle.chunk.specs.Walks.{Walked, walk}
 use Rattle.form.specs.declared.Head.{Head}
 use Rattle.form.specs.Forms.{head_of}
 use Rattle.truesize.specs.Sizes.{true_size, entries_of}
-
--- the rows of a walk that came to the end, or the refusal it stopped with
-unfoldable pub ended_as : Verdict → List Entry → Answer (List Entry)
-ended_as Accepted rows = given rows
-ended_as (Refused r) rows = refused r
 
 -- check 10: "exactly one fmt and one data, fmt first, and at most one each of bext, chna and fact; fact holds at least 4
 -- bytes"
@@ -46,6 +39,6 @@ unfoldable pub listing : List ℕ → Answer Listing
 unfolding and_then check
 listing s =
     and_then (head_of s) λ h.
-    and_then (ended_as (headers h s).end (headers h s).rows) λ rows.
-    check (chunks_good rows) BadChunkSet
-    (given (record { head = h; rows = rows }))
+    and_then (headers h s).end λ _.
+    check (chunks_good (headers h s).rows) BadChunkSet
+    (Ok (record { head = h; rows = (headers h s).rows }))

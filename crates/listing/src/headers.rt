@@ -1,8 +1,8 @@
 // The walk of the headers past ds64 by their true sizes, its chunks tallied.
-ghost use Rattle.std.specs.Prelude.{◌≡◌, ◌-◌, ◌^◌, ◌≤◌, ◌<◌};
+ghost use Rattle.std.specs.Prelude.{◌≡◌, ◌-◌, ◌≤◌};
 ghost use Rattle.chunk.specs.Tables.{LIMIT};
-ghost use Rattle.chunk.specs.Code.{header_of, walk_after, full};
-ghost use Rattle.listing.specs.Code.{Small, no_tally, Near, Nears, passed_from, rest_of, Begins, tally_as};
+ghost use Rattle.chunk.specs.Code.{header_of};
+ghost use Rattle.listing.specs.Code.{no_tally, Near, Nears, passed_from, rest_of, Begins, tally_as};
 
 use super::tally::Tally;
 use chunk::{Header, Refusal, Step, Table};
@@ -23,14 +23,10 @@ pub struct Noted {
     pub count: u64,
 }
 
-#[derive(Clone, Copy)]
-pub enum Tallied {
-    Noted(Noted),
-    Refused(Refusal),
-}
-
 // Passes the chunks that no rule asks for: the name starts with none of b to f, and the next header is whole and no
 // farther than near, so that the field is the size. One test of the end tells all of that chunk and of the next header.
+// Kept: a while, since a for over the room that is left takes two instructions more for each chunk, and the sample count of 64
+// chunks then passes its limit.
 fn pass(file: &[u8], near: u64, from: u64, rooms: u64) -> Passed
     requires { Nears file.now near from }
     ensures { result ≡ passed_from file.now near rooms from }
@@ -40,10 +36,10 @@ fn pass(file: &[u8], near: u64, from: u64, rooms: u64) -> Passed
     while 0 < room {
         let i = place as usize;
         let letter = file[i - 8];
-        if b'b' <= letter && letter <= b'f' {
+        if (b'b'..=b'f').contains(&letter) {
             return Passed { place, room };
         }
-        let next = chunk::steps::past(place, le::read4(file, i - 4));
+        let next = chunk::steps::past(place, le::read::<4>(file, i - 4));
         if near < next {
             return Passed { place, room };
         }
@@ -58,65 +54,40 @@ fn near_end(len: u64, place: u64) -> u64
     requires { place ≤ len }
     ensures { Near len place result }
 {
-    if chunk::ONES < len - place {
-        return place + chunk::ONES;
-    }
-    len
-}
-
-// How the walk ends at a step after which no header may come.
-fn last(found: Step, n: Noted) -> Tallied
-    requires { Small n.tally × (n.count < 2 ^ 32) }
-    ensures { result ≡ tally_as n.first n.count n.tally (walk_after found full) }
-{
-    match found {
-        Step::Chunk(_, _) => Tallied::Refused(Refusal::TooMany),
-        Step::Last(e) => {
-            let t = n.tally;
-            let first = n.first;
-            let tally = super::tally::note(t, e);
-            Tallied::Noted(Noted {
-                tally,
-                first,
-                count: n.count + 1,
-            })
-        }
-        Step::Cut(_) => Tallied::Refused(Refusal::CutHeader),
-        Step::Stop(r) => Tallied::Refused(r),
-    }
+    place + (len - place).min(chunk::ONES)
 }
 
 // The walk past ds64 by the true sizes, its chunks noted. Nothing is stored, so that a refused file leaves no row behind.
-pub fn walk(file: &[u8], o: Start) -> Tallied
-    requires { Begins file.now o }
-    ensures { result ≡ tally_as (header_of o.place file.now) (LIMIT - o.room) no_tally (rest_of o file.now) }
+pub fn walk(file: &[u8], start: Start) -> Result<Noted, Refusal>
+    requires { Begins file.now start }
+    ensures { result ≡ tally_as (header_of start.place file.now) (LIMIT - start.room) no_tally (rest_of start file.now) }
 {
-    let head = o.head;
-    let mut place = o.place;
-    let mut room = o.room;
-    let mut tally = super::tally::none();
-    let first = chunk::steps::header(file, place);
-    let near = near_end(file.len() as u64, place);
-    loop {
-        let h = chunk::steps::header(file, place);
-        let found = truesize::step(file, head, place, h);
-        let Step::Chunk(entry, next) = found else {
-            let count = Table::LIMIT as u64 - room;
-            return last(
-                found,
-                Noted {
-                    tally,
+    let first = chunk::steps::header(file, start.place);
+    let near = near_end(file.len() as u64, start.place);
+    let mut tally = Tally::none();
+    let mut ahead = Passed {
+        place: start.place,
+        room: start.room,
+    };
+    // Kept: a while, since no index is counted: place and room come from pass.
+    while 0 < ahead.room {
+        let h = chunk::steps::header(file, ahead.place);
+        let found = truesize::step(file, start.head, ahead.place, h);
+        match found {
+            Step::Chunk(entry, next) => {
+                tally = tally.note(entry);
+                ahead = pass(file, near, next, ahead.room - 1);
+            }
+            Step::Last(entry) => {
+                return Ok(Noted {
+                    tally: tally.note(entry),
                     first,
-                    count,
-                },
-            );
-        };
-        tally = super::tally::note(tally, entry);
-        let p = pass(file, near, next, room - 1);
-        place = p.place;
-        room = p.room;
-        if room == 0 {
-            return Tallied::Refused(Refusal::TooMany);
+                    count: Table::LIMIT as u64 - ahead.room + 1,
+                });
+            }
+            Step::Cut(_) => return Err(Refusal::CutHeader),
+            Step::Stop(r) => return Err(r),
         }
     }
+    Err(Refusal::TooMany)
 }

@@ -1,112 +1,99 @@
 // What the walk keeps of the chunks it meets: how often each name that check 10 asks for was met, and where.
 ghost use Rattle.std.specs.Prelude.{◌≡◌};
-ghost use Rattle.listing.specs.Code.{noted, no_tally, facts_of, tally_good, Small};
 
 use super::Payload;
 use chunk::{Entry, Name};
 
-// How many chunks of each name were met, and where the last was; zeros before the first.
+// How many chunks of each name were met, and where the last was; zeros or none before the first.
 #[derive(Clone, Copy)]
 pub struct Tally {
     // The five counts in one number, eight bits each: a file has at most 64 chunks. A fact below 4 bytes counts twice,
     // since two are refused as one such is.
+    // Kept: five numbers in its place push others out of the registers, some 20 instructions a file (docs/DECISIONS.md).
     pub met: u64,
+    // Kept: zeros and no Option, since check 10 asks the counts, and what it lets pass has both.
     pub fmt: Payload,
     pub audio: Payload,
-    pub fact: u64,
+    pub fact: Option<u64>,
 }
 
 impl Tally {
+    ghost use Rattle.listing.specs.Code.{noted, no_tally, tally_good, Small};
+
     // What one chunk of a name adds.
-    pub const FMT: u64 = 1;
+    const FMT: u64 = 1;
 
-    pub const DATA: u64 = 0x100;
+    const DATA: u64 = 0x100;
 
-    pub const FACT: u64 = 0x1_0000;
+    const FACT: u64 = 0x1_0000;
 
-    pub const BEXT: u64 = 0x100_0000;
+    const BEXT: u64 = 0x100_0000;
 
-    pub const CHNA: u64 = 0x1_0000_0000;
-}
+    const CHNA: u64 = 0x1_0000_0000;
 
-// Nothing met yet.
-pub fn none() -> Tally
-    ensures { result ≡ no_tally }
-{
-    let nothing = Payload { place: 0, size: 0 };
-    Tally {
-        met: 0,
-        fmt: nothing,
-        audio: nothing,
-        fact: 0,
-    }
-}
-
-// A tally after one chunk more. Most chunks have none of the five names.
-pub fn note(t: Tally, e: Entry) -> Tally
-    requires { Small t }
-    ensures { result ≡ noted t e }
-{
-    let mut t = t;
-    let name = e.name;
-    if name == Name::FMT {
-        let payload = Payload {
-            place: e.place,
-            size: e.size,
-        };
-        t.met += Tally::FMT;
-        t.fmt = payload;
-        return t;
-    }
-    if name == Name::DATA {
-        let payload = Payload {
-            place: e.place,
-            size: e.size,
-        };
-        t.met += Tally::DATA;
-        t.audio = payload;
-        return t;
-    }
-    if name == Name::FACT {
-        t.met += Tally::FACT;
-        if e.size < 4 {
-            t.met += Tally::FACT;
+    // Nothing met yet.
+    #[tactic(auto, unfolding(crate::specs::Code::no_tally))]
+    pub fn none() -> Tally
+        ensures { result ≡ no_tally }
+    {
+        let nothing = Payload { place: 0, size: 0 };
+        Tally {
+            met: 0,
+            fmt: nothing,
+            audio: nothing,
+            fact: None,
         }
-        t.fact = e.place;
-        return t;
     }
-    if name == Name::BEXT {
-        t.met += Tally::BEXT;
-        return t;
-    }
-    if name == Name::CHNA {
-        t.met += Tally::CHNA;
-    }
-    t
-}
 
-// How many facts were met.
-pub fn facts(t: Tally) -> u64
-    ensures { result ≡ facts_of t }
-{
-    t.met / Tally::FACT % 0x100
-}
+    // The tally after one chunk more. Most chunks have none of the five names.
+    #[tactic(auto, unfolding(crate::specs::Code::noted, crate::specs::Code::weight, crate::specs::Code::heavy, crate::specs::Code::counts, crate::specs::Code::changes, crate::specs::Code::payload_of))]
+    pub fn note(self, e: Entry) -> Tally
+        requires { Small self }
+        ensures { result ≡ noted self e }
+    {
+        let payload = Payload {
+            place: e.place,
+            size: e.size,
+        };
+        match e.name {
+            Name::FMT => Tally {
+                met: self.met + Tally::FMT,
+                fmt: payload,
+                ..self
+            },
+            Name::DATA => Tally {
+                met: self.met + Tally::DATA,
+                audio: payload,
+                ..self
+            },
+            Name::FACT => {
+                let times = if e.size < 4 { 2 } else { 1 };
+                Tally {
+                    met: self.met + times * Tally::FACT,
+                    fact: Some(e.place),
+                    ..self
+                }
+            }
+            Name::BEXT => Tally {
+                met: self.met + Tally::BEXT,
+                ..self
+            },
+            Name::CHNA => Tally {
+                met: self.met + Tally::CHNA,
+                ..self
+            },
+            _ => self,
+        }
+    }
 
-// Check 10.
-pub fn good(t: Tally) -> bool
-    ensures { result ≡ tally_good t }
-{
-    if t.met % Tally::FACT != Tally::FMT + Tally::DATA {
-        return false;
+    // Check 10.
+    pub fn is_good(self) -> bool
+        ensures { result ≡ tally_good self }
+    {
+        self.met % Tally::FACT == Tally::FMT + Tally::DATA
+            && self.fmt.place < self.audio.place
+            && self.met / Tally::BEXT % 0x100 <= 1
+            && self.met / Tally::CHNA <= 1
+            && self.met / Tally::FACT % 0x100 <= 1
     }
-    if t.audio.place <= t.fmt.place {
-        return false;
-    }
-    if 1 < t.met / Tally::BEXT % 0x100 {
-        return false;
-    }
-    if 1 < t.met / Tally::CHNA {
-        return false;
-    }
-    facts(t) <= 1
 }

@@ -13,7 +13,7 @@ use borrow.Author.Tests.{eqb-true}
 use Rattle.le.specs.Number.{Bytes, bytes, field, number}
 use Rattle.le.proofs.Laws.{field-length, field-then, number-then, number_bound, Bytes-drop}
 use Rattle.chunk.specs.declared.Entry.{Entry}
-use Rattle.chunk.specs.Refusals.{given}
+use Rattle.chunk.specs.Refusals.{Ok}
 use Rattle.chunk.specs.Names.{DS64, FMT, DATA, FACT}
 use Rattle.chunk.specs.Fields.{ONES}
 use Rattle.chunk.specs.Tables.{find}
@@ -146,7 +146,7 @@ module _ (s : List ℕ) (b : Bytes s) (l : Listing) (t : Checked s l) where
       ∙ ap₂ (λ (v : ℕ) (l : List ℕ). bytes 4 v ++ l) o.wave (laid-bytes s b laid)))
 
   riff-is : is_wide form ≡ false → (number 4 4 s ≡ ONES → ⊥) × (l.head ≡ record { form = Riff; ds64 = no_ds64 })
-  riff-is v = riff-head s l.head (subst (λ (f : Form). head_as f s ≡ given l.head) (riff-form form v) o.head)
+  riff-is v = riff-head s l.head (subst (λ (f : Form). head_as f s ≡ Ok l.head) (riff-form form v) o.head)
 
   form-wide : number 4 4 s ≡ ONES → (x : Bool) → is_wide form ≡ x → is_wide form ≡ true
   form-wide k true w = w
@@ -258,13 +258,13 @@ module _ (s : List ℕ) (b : Bytes s) (l : Listing) (t : Checked s l) where
 -- ---- checks 11 and 12
 
 format-is : (s : List ℕ) (a : Scan) → Scanned s a
-    → (format_in (payload (find FMT a.rows) s) ≡ given a.format) × ((find DATA a.rows).size % a.format.block ≡ 0)
+    → (format_in (payload (find FMT a.rows) s) ≡ Ok a.format) × ((find DATA a.rows).size % a.format.block ≡ 0)
 unfolding judged whole_blocks
 format-is s a t =
     let c = and_then-given (format_in (payload (find FMT a.rows) s)) _ a.format t.format in
     let w = check-given (eqb ((find DATA a.rows).size % c.0.block) 0) _ _ a.format c.2 in
     let f : c.0 ≡ a.format = given-inj c.0 a.format w.1 in (
-      c.1 ∙ ap given f,
+      c.1 ∙ ap Ok f,
       ap (λ (x : Format). (find DATA a.rows).size % x.block) (sym f) ∙ eqb-true _ _ w.0,
     )
 
@@ -295,7 +295,7 @@ scanned-good s b a t =
       chna = k.chna;
       fact = k.fact;
       format =
-          of-rows s b (listing_of a) l (λ (c : Chunk). c.name ≡ FMT → format_in c.payload ≡ given a.format)
+          of-rows s b (listing_of a) l (λ (c : Chunk). c.name ≡ FMT → format_in c.payload ≡ Ok a.format)
           (λ e m p.
           ap (λ (x : Entry). format_in (payload x s)) (only FMT a.rows e (omega (arith, w.one_fmt)) m p) ∙ is.0);
       blocks =

@@ -2,23 +2,21 @@
 -- Assumes nothing.
 use mathlib.Core.Path.{◌≡◌, refl, sym, ap, ◌∙◌, subst}
 use mathlib.Core.Bool.{◌||◌}
-use mathlib.Core.List.{List, []}
-use Prim.Native.Nat.{ℕ, ◌+◌, ◌*◌, ◌≤◌, ◌<◌}
+use mathlib.Core.List.{List, [], ◌∷◌, ◌++◌}
+use Prim.Native.Nat.{ℕ, zero, suc, ◌+◌, ◌*◌, ◌≤◌, ◌<◌}
 use native.Mathlib.Omega.{arith}
-use lib.ListN.{length, set, replicate}
+use lib.ListN.{length, set, drop, length-set}
 use lib.Dec.{eqb, leb}
 use borrow.Author.Tests.{le-leb, lt-leb, leb-true}
 use Rattle.le.specs.Number.{number}
 use Rattle.le.specs.Choice.{pick}
-use Rattle.chunk.specs.declared.Table.{Table}
+use Rattle.chunk.specs.declared.Entry.{Entry}
 use Rattle.chunk.specs.declared.Refusal.{Refusal}
 use Rattle.chunk.specs.declared.Refusal.TheVariants.{ShortOutput}
-use Rattle.chunk.specs.declared.Verdict.{Verdict}
-use Rattle.chunk.specs.declared.Verdict.TheVariants.{Accepted, Refused}
-use Rattle.chunk.specs.Refusals.{Answer, refused, given, verdict_of}
+use Rattle.chunk.specs.Refusals.{Answer, Err, Ok, Verdict, verdict_of}
 use Rattle.chunk.specs.Names.{WAVE}
 use Rattle.chunk.specs.Fields.{ONES}
-use Rattle.chunk.specs.Tables.{all_words, tabled, table_of, LIMIT, WORDS}
+use Rattle.chunk.specs.Tables.{all_words, table_words, tabled, table_of, LIMIT, WORDS}
 use Rattle.chunk.specs.Walks.{Walked, own_size}
 use Rattle.chunk.proofs.Checks.{pick_true, pick-false, check-given}
 use Rattle.chunk.proofs.Laid.{laid-walk}
@@ -32,12 +30,14 @@ use Rattle.listing.specs.Code.{kept_of, Fresh}
 use Rattle.listing.proofs.Checked.{listing-checked}
 use Rattle.listing.proofs.Listings.{keeps}
 use Rattle.wave.specs.Scans.{Scan, scan, rows_of, listed_rows, walk_from, walk32}
-use Rattle.wave.specs.Words.{scan_table, ScanDone, list_table, ListDone, walk_table, WalkDone}
-use Rattle.wave.specs.Code.{WalkStored, Ended, Fills}
+use Rattle.wave.specs.declared.Tabled.{Tabled}
+use Rattle.wave.specs.Words.{Done, ScanDone, ListDone, WalkDone}
+use Rattle.wave.specs.Code.{WalkStored, Ended}
 use Rattle.wave.proofs.Scanned.{scan-scanned}
+use Rattle.wave.proofs.Again.{ended-few}
 use Rattle.wave.proofs.Stored.{none-tabled}
 
--- ---- an accepted file can be filled in
+-- ---- an accepted file can be read once more
 
 -- a 64-bit form's entries lie in the file, and are few
 pub entries_fit : (s : List ℕ) (h : Head) → Opened s h → EntriesFit h s
@@ -54,28 +54,24 @@ entries_fit s h o =
     }
 
 -- its rows are those of its walk
-scan-headers : (s : List ℕ) (a : Scan) → scan s ≡ given a → headers a.head s ≡ record { rows = a.rows; end = Accepted }
+scan-headers : (s : List ℕ) (a : Scan) → scan s ≡ Ok a → headers a.head s ≡ record { rows = a.rows; end = Ok tt }
 unfolding headers
 scan-headers s a e = let l = (scan-scanned s a e).listed in laid-walk LIMIT l.laid l.few
 
-pub accepted-fills : (s w : List ℕ) (h : Head) (n : ℕ) (a : Scan) → WORDS ≤ length w → scan s ≡ given a → h ≡ a.head
-    → n ≡ length a.rows → Fills h s n w
-accepted-fills s w h n a l e p q =
-    let o = (scan-scanned s a e).listed.opened in
+pub accepted-ended : (s : List ℕ) (h : Head) (n : ℕ) (a : Scan) → scan s ≡ Ok a → h ≡ a.head → n ≡ length a.rows → Ended h s n
+accepted-ended s h n a e p q =
     let k = scan-headers s a e in
-    subst (λ (x : Head). Fills x s n w) (sym p)
+    subst (λ (x : Head). Ended x s n) (sym p)
     (record {
-      long = o.long;
-      fit = entries_fit s a.head o;
+      fit = entries_fit s a.head (scan-scanned s a e).listed.opened;
       end = ap (λ (x : Walked). x.end) k;
       count = q ∙ sym (ap (λ (x : Walked). length x.rows) k);
-      room = l;
     })
 
 -- ---- and so can a listed one
 
 module _ (s : List ℕ) (k : code.Listing) (f : Fresh s k) where
-  pub fresh-headers : headers k.head s ≡ record { rows = (keeps s k f).listing.rows; end = Accepted }
+  pub fresh-headers : headers k.head s ≡ record { rows = (keeps s k f).listing.rows; end = Ok tt }
   unfolding headers kept_of
   fresh-headers =
       let l = listing-checked s (keeps s k f).listing (keeps s k f).is in
@@ -92,115 +88,97 @@ module _ (s : List ℕ) (k : code.Listing) (f : Fresh s k) where
         count = ap (λ (x : code.Listing). x.count) (keeps s k f).kept ∙ sym (ap (λ (x : Walked). length x.rows) fresh-headers);
       }
 
-  pub fresh-fills : (w : List ℕ) → WORDS ≤ length w → Fills k.head s k.count w
-  fresh-fills w l =
-      let e = fresh-ended in
-      record {
-        long = (listing-checked s (keeps s k f).listing (keeps s k f).is).opened.long;
-        fit = e.fit;
-        end = e.end;
-        count = e.count;
-        room = l;
-      }
+-- ---- a table into words
 
--- ---- the table of no chunks
+module _ (v : Verdict) (rows : List Entry) (w : List ℕ) where
+  -- the words are too few
+  pub done-short : length w < WORDS → Done v rows w (Err ShortOutput) w
+  done-short h =
+      let e = lt-leb WORDS (length w) h in
+      record { verdict = sym (pick-false _ _ _ e); words = sym (pick-false _ _ _ e) }
 
-empty-words : (t : Table) → t ≡ table_of [] → t.words ≡ replicate WORDS 0
-unfolding table_of tabled all_words
-empty-words t p = ap (λ (x : Table). x.words) p
+  -- they aren't
+  done-stored : (r : Verdict) (w' : List ℕ) → WORDS ≤ length w → r ≡ v → w' ≡ tabled rows w → Done v rows w r w'
+  done-stored r w' h p q =
+      let e = le-leb WORDS (length w) h in
+      record { verdict = p ∙ sym (pick_true _ _ _ e); words = q ∙ sym (pick_true _ _ _ e) }
+
+-- a table stored into words whose first is 0 already
+first-kept : (rows : List Entry) (w : List ℕ) → tabled rows (set w 0 0) ≡ tabled rows w
+unfolding tabled table_words
+first-kept rows w = ap (λ (l : List ℕ). table_words rows ++ l) (rest (1 + 4 * length rows) w (omega arith))
+  where
+    rest : (k : ℕ) (u : List ℕ) → 1 ≤ k → drop k (set u 0 0) ≡ drop k u
+    rest zero u h = absurd (omega arith)
+    rest (suc k) [] h = refl
+    rest (suc k) (x ∷ u) h = refl
+
+pub room-kept : (w : List ℕ) → WORDS ≤ length w → WORDS ≤ length (set w 0 0)
+room-kept w h = omega (arith, h, length-set w 0 0)
+
+-- there are words for the table of a listed file
+pub ended-room : (h : Head) (s : List ℕ) (n : ℕ) → Ended h s n → (w : List ℕ) → WORDS ≤ length w → 1 + 4 * n ≤ length (set w 0 0)
+ended-room h s n e w l = omega (arith, ended-few h s n e, room-kept w l)
+
+-- into the words of the table of no chunks
+pub done-value : (v : Verdict) (rows : List Entry) (t : Tabled) → Done v rows (table_of []).words t.verdict t.table.words
+    → t ≡ record { table = table_of rows; verdict = v }
+unfolding table_of tabled all_words pick
+done-value v rows t d = λ i. record { table = record { words = d.words i }; verdict = d.verdict i }
 
 -- ---- the scan
 
 module _ (s w : List ℕ) where
-  pub scan-short : length w < WORDS → ScanDone s w (Refused ShortOutput) w
-  scan-short h =
-      let e = lt-leb WORDS (length w) h in
-      record { verdict = sym (pick-false _ _ _ e); words = sym (pick-false _ _ _ e) }
-
-  pub scan_refused : (r : Refusal) → WORDS ≤ length w → scan s ≡ refused r → ScanDone s w (Refused r) (set w 0 0)
+  pub scan_refused : (r : Refusal) → WORDS ≤ length w → scan s ≡ Err r → ScanDone s w (Err r) (set w 0 0)
   unfolding verdict_of rows_of
   scan_refused r h q =
-      let e = le-leb WORDS (length w) h in
-      record {
-        verdict = sym (pick_true _ _ _ e ∙ ap verdict_of q);
-        words = none-tabled w (omega arith) ∙ sym (pick_true _ _ _ e ∙ ap (λ (x : Answer Scan). tabled (rows_of x) w) q);
-      }
+      done-stored _ _ w _ _ h (sym (ap verdict_of q))
+      (none-tabled w (omega arith) ∙ sym (ap (λ (x : Answer Scan). tabled (rows_of x) w) q))
 
-  pub scan-accepted : (h : Head) (a : Scan) (v : List ℕ) → WORDS ≤ length w → scan s ≡ given a → h ≡ a.head
-      → v ≡ tabled (headers h s).rows w → ScanDone s w Accepted v
+  pub scan-accepted : (h : Head) (a : Scan) (v : List ℕ) → WORDS ≤ length w → scan s ≡ Ok a → h ≡ a.head
+      → v ≡ tabled (headers h s).rows (set w 0 0) → ScanDone s w (Ok tt) v
   unfolding verdict_of rows_of
   scan-accepted h a v l q p d =
-      let e = le-leb WORDS (length w) l in
       let k = ap (λ (x : Head). headers x s) p ∙ scan-headers s a q in
-      record {
-        verdict = sym (pick_true _ _ _ e ∙ ap verdict_of q);
-        words =
-            d ∙ ap (λ (x : Walked). tabled x.rows w) k
-            ∙ sym (pick_true _ _ _ e ∙ ap (λ (x : Answer Scan). tabled (rows_of x) w) q);
-      }
-
-pub scan-value : (s v : List ℕ) (r : Verdict) (t : Table) → t ≡ table_of [] → ScanDone s t.words r v
-    → record { table = record { words = v }; verdict = r } ≡ scan_table s
-unfolding scan_table table_of pick
-scan-value s v r t p d =
-    let z : ScanDone s (replicate WORDS 0) r v = subst (λ (w : List ℕ). ScanDone s w r v) (empty-words t p) d in
-    λ i. record { table = record { words = z.words i }; verdict = z.verdict i }
+      done-stored _ _ w _ _ l (sym (ap verdict_of q))
+      (d ∙ first-kept _ w ∙ ap (λ (x : Walked). tabled x.rows w) k ∙ sym (ap (λ (x : Answer Scan). tabled (rows_of x) w) q))
 
 -- ---- the listing
 
 module _ (s w : List ℕ) where
-  pub list-short : length w < WORDS → ListDone s w (Refused ShortOutput) w
-  list-short h =
-      let e = lt-leb WORDS (length w) h in
-      record { verdict = sym (pick-false _ _ _ e); words = sym (pick-false _ _ _ e) }
-
-  pub list_refused : (r : Refusal) → WORDS ≤ length w → listing s ≡ refused r → ListDone s w (Refused r) (set w 0 0)
+  pub list_refused : (r : Refusal) → WORDS ≤ length w → listing s ≡ Err r → ListDone s w (Err r) (set w 0 0)
   unfolding verdict_of listed_rows
   list_refused r h q =
-      let e = le-leb WORDS (length w) h in
-      record {
-        verdict = sym (pick_true _ _ _ e ∙ ap verdict_of q);
-        words = none-tabled w (omega arith) ∙ sym (pick_true _ _ _ e ∙ ap (λ (x : Answer Listing). tabled (listed_rows x) w) q);
-      }
+      done-stored _ _ w _ _ h (sym (ap verdict_of q))
+      (none-tabled w (omega arith) ∙ sym (ap (λ (x : Answer Listing). tabled (listed_rows x) w) q))
 
-  pub list-listed : (k : code.Listing) (v : List ℕ) → WORDS ≤ length w → Fresh s k → v ≡ tabled (headers k.head s).rows w
-      → ListDone s w Accepted v
+  pub list-listed : (k : code.Listing) (v : List ℕ) → WORDS ≤ length w → Fresh s k → v ≡ tabled (headers k.head s).rows (set w 0 0)
+      → ListDone s w (Ok tt) v
   unfolding verdict_of listed_rows
   list-listed k v h f d =
-      let e = le-leb WORDS (length w) h in
       let q = (keeps s k f).is in
-      record {
-        verdict = sym (pick_true _ _ _ e ∙ ap verdict_of q);
-        words =
-            d ∙ ap (λ (x : Walked). tabled x.rows w) (fresh-headers s k f)
-            ∙ sym (pick_true _ _ _ e ∙ ap (λ (x : Answer Listing). tabled (listed_rows x) w) q);
-      }
-
-pub list-value : (s v : List ℕ) (r : Verdict) (t : Table) → t ≡ table_of [] → ListDone s t.words r v
-    → record { table = record { words = v }; verdict = r } ≡ list_table s
-unfolding list_table table_of pick
-list-value s v r t p d =
-    let z : ListDone s (replicate WORDS 0) r v = subst (λ (w : List ℕ). ListDone s w r v) (empty-words t p) d in
-    λ i. record { table = record { words = z.words i }; verdict = z.verdict i }
+      done-stored _ _ w _ _ h (sym (ap verdict_of q))
+      (d ∙ first-kept _ w ∙ ap (λ (x : Walked). tabled x.rows w) (fresh-headers s k f)
+      ∙ sym (ap (λ (x : Answer Listing). tabled (listed_rows x) w) q))
 
 -- ---- the 32-bit walk
 
-pub verdict-refused : {A : Type 0} (x : Answer A) (r : Refusal) → verdict_of x ≡ Refused r → x ≡ refused r
+pub verdict-refused : {A : Type 0} (x : Answer A) (r : Refusal) → verdict_of x ≡ Err r → x ≡ Err r
 unfolding verdict_of
-verdict-refused (refused q) r e = cc
-verdict-refused (given a) r e = absurd (let z : ◌≡◌ {A = ℕ} 0 1 = cc in omega arith)
+verdict-refused (Err q) r e = cc
+verdict-refused (Ok a) r e = cc
 
-verdict-given : (x : Answer ℕ) → verdict_of x ≡ Accepted → (n : ℕ) × (x ≡ given n)
+verdict-given : (x : Answer ℕ) → verdict_of x ≡ Ok tt → (n : ℕ) × (x ≡ Ok n)
 unfolding verdict_of
-verdict-given (refused q) e = absurd (let z : ◌≡◌ {A = ℕ} 0 1 = cc in omega arith)
-verdict-given (given n) e = (n, refl)
+verdict-given (Err q) e = cc
+verdict-given (Ok n) e = (n, refl)
 
 -- what checks 1, 2 and 5 let through has its 12 bytes, and the walk starts behind them
 pub record Opens32 (s : List ℕ) : Type 0 where
   pub long : 12 ≤ length s
-  pub starts : open_for32 s ≡ given 12
+  pub starts : open_for32 s ≡ Ok 12
 
-pub open32-told : (s : List ℕ) → verdict_of (open_for32 s) ≡ Accepted → Opens32 s
+pub open32-told : (s : List ℕ) → verdict_of (open_for32 s) ≡ Ok tt → Opens32 s
 unfolding open_for32
 open32-told s e =
     let v = verdict-given (open_for32 s) e in
@@ -210,32 +188,15 @@ open32-told s e =
     record { long = leb-true 12 (length s) c1.0; starts = v.1 ∙ sym c3.1 }
 
 module _ (s w : List ℕ) where
-  pub walk-short : length w < WORDS → WalkDone s w (Refused ShortOutput) w
-  walk-short h =
-      let e = lt-leb WORDS (length w) h in
-      record { verdict = sym (pick-false _ _ _ e); words = sym (pick-false _ _ _ e) }
-
-  pub walk_refused : (r : Refusal) → WORDS ≤ length w → open_for32 s ≡ refused r → WalkDone s w (Refused r) (set w 0 0)
+  pub walk_refused : (r : Refusal) → WORDS ≤ length w → open_for32 s ≡ Err r → WalkDone s w (Err r) (set w 0 0)
   unfolding walk32 walk_from
   walk_refused r h q =
-      let e = le-leb WORDS (length w) h in
-      record {
-        verdict = sym (pick_true _ _ _ e ∙ ap (λ (x : Answer ℕ). (walk_from x s).end) q);
-        words = none-tabled w (omega arith) ∙ sym (pick_true _ _ _ e ∙ ap (λ (x : Answer ℕ). tabled (walk_from x s).rows w) q);
-      }
+      done-stored _ _ w _ _ h (sym (ap (λ (x : Answer ℕ). (walk_from x s).end) q))
+      (none-tabled w (omega arith) ∙ sym (ap (λ (x : Answer ℕ). tabled (walk_from x s).rows w) q))
 
-  pub walk-done : (r : Verdict) (v : List ℕ) → WORDS ≤ length w → open_for32 s ≡ given 12 → WalkStored own_size s w r v → WalkDone s w r v
+  pub walk-done : (r : Verdict) (v : List ℕ) → WORDS ≤ length w → open_for32 s ≡ Ok 12 → WalkStored own_size s (set w 0 0) r v
+      → WalkDone s w r v
   unfolding walk32 walk_from
   walk-done r v h q d =
-      let e = le-leb WORDS (length w) h in
-      record {
-        verdict = d.verdict ∙ sym (pick_true _ _ _ e ∙ ap (λ (x : Answer ℕ). (walk_from x s).end) q);
-        words = d.words ∙ sym (pick_true _ _ _ e ∙ ap (λ (x : Answer ℕ). tabled (walk_from x s).rows w) q);
-      }
-
-pub walk-value : (s v : List ℕ) (r : Verdict) (t : Table) → t ≡ table_of [] → WalkDone s t.words r v
-    → record { table = record { words = v }; verdict = r } ≡ walk_table s
-unfolding walk_table table_of pick
-walk-value s v r t p d =
-    let z : WalkDone s (replicate WORDS 0) r v = subst (λ (w : List ℕ). WalkDone s w r v) (empty-words t p) d in
-    λ i. record { table = record { words = z.words i }; verdict = z.verdict i }
+      done-stored _ _ w _ _ h (d.verdict ∙ sym (ap (λ (x : Answer ℕ). (walk_from x s).end) q))
+      (d.words ∙ first-kept _ w ∙ sym (ap (λ (x : Answer ℕ). tabled (walk_from x s).rows w) q))

@@ -17,8 +17,7 @@ use Rattle.chunk.specs.declared.Source.{Source}
 use Rattle.chunk.specs.declared.Source.TheVariants.{Own}
 use Rattle.chunk.specs.declared.TrueSize.{TrueSize}
 use Rattle.chunk.specs.declared.Refusal.TheVariants.{UnknownSize}
-use Rattle.chunk.specs.declared.Verdict.TheVariants.{Accepted, Refused}
-use Rattle.chunk.specs.Refusals.{Answer, refused, given}
+use Rattle.chunk.specs.Refusals.{Answer, Err, Ok}
 use Rattle.chunk.specs.Fields.{ONES}
 use Rattle.chunk.specs.Walks.{Rule, past, Walked, walk, field_size, own_size}
 use Rattle.chunk.proofs.Checks.{pick_true, pick-false}
@@ -46,25 +45,25 @@ abbrev after : Entry → Walked → Walked
 after e w = record { rows = e ∷ w.rows; end = w.end }
 
 shown-ones : (s : List ℕ) (e : Entry) (es : List Entry) → own_field s e ≡ ONES
-    → shown s (e ∷ es) ≡ record { rows = []; end = Refused UnknownSize }
+    → shown s (e ∷ es) ≡ record { rows = []; end = Err UnknownSize }
 unfolding ahead stop
 shown-ones s e es h =
     let t = eqb (own_field s e) ONES in
     let q : t ≡ true = eq-eqb (own_field s e) ONES h in
-    λ i. record { rows = pick_true t [] (e ∷ ahead s es) q i; end = pick_true t (Refused UnknownSize) (stop s es) q i }
+    λ i. record { rows = pick_true t [] (e ∷ ahead s es) q i; end = pick_true t (Err UnknownSize) (stop s es) q i }
 
 shown-sized : (s : List ℕ) (e : Entry) (es : List Entry) → (own_field s e ≡ ONES → ⊥) → shown s (e ∷ es) ≡ after e (shown s es)
 unfolding ahead stop
 shown-sized s e es h =
     let t = eqb (own_field s e) ONES in
     let q : t ≡ false = ne_eqb (own_field s e) ONES h in
-    λ i. record { rows = pick-false t [] (e ∷ ahead s es) q i; end = pick-false t (Refused UnknownSize) (stop s es) q i }
+    λ i. record { rows = pick-false t [] (e ∷ ahead s es) q i; end = pick-false t (Err UnknownSize) (stop s es) q i }
 
 -- ---- the walk over laid rows
 
 -- a rule by which a field that is not all ones is the size
 Plain : Rule → Type 0
-Plain rule = (at name own : ℕ) (t : TrueSize) → rule at name own ≡ given t → (own ≡ ONES → ⊥) → t ≡ field_size own
+Plain rule = (at name own : ℕ) (t : TrueSize) → rule at name own ≡ Ok t → (own ≡ ONES → ⊥) → t ≡ field_size own
 
 own_at : {rule : Rule} {s : List ℕ} {at : ℕ} {e : Entry} → Row rule s at e → own_field s e ≡ number 4 (at + 4) s
 unfolding own_field
@@ -72,9 +71,9 @@ own_at {s = s} {at} {e} r = ap (λ (p : ℕ). number 4 p s) (omega (arith, r.pla
 
 -- the header's answer to the 32-bit walk
 row-ones : (rule : Rule) (s : List ℕ) (room at : ℕ) (e : Entry) → Row rule s at e → own_field s e ≡ ONES
-    → walk own_size s (suc room) at ≡ record { rows = []; end = Refused UnknownSize }
+    → walk own_size s (suc room) at ≡ record { rows = []; end = Err UnknownSize }
 row-ones rule s room at e r h =
-    walk-stop own_size s (suc room) at (Refused UnknownSize)
+    walk-stop own_size s (suc room) at (Err UnknownSize)
     (step-refused own_size s room at UnknownSize (row_fits r)
     (own-ones at (number 4 at s) (number 4 (at + 4) s) (sym (own_at r) ∙ h)))
 
@@ -87,14 +86,14 @@ row-own rule plain s at e r h =
     record {
       place = r.place;
       named = r.named;
-      sized = own-given at e.name own k ∙ ap given (sym (plain at e.name own _ r.sized k));
+      sized = own-given at e.name own k ∙ ap Ok (sym (plain at e.name own _ r.sized k));
       ends = r.ends;
     }
 
 laid-own : (rule : Rule) → Plain rule → {s : List ℕ} {at : ℕ} {rows : List Entry} (room : ℕ) → Laid rule s at rows
     → length rows ≤ room → walk own_size s room at ≡ shown s rows
 unfolding ahead stop
-laid-own rule plain {s} {at} room (done h) k = walk-stop own_size s room at Accepted (step_end own_size s room at h)
+laid-own rule plain {s} {at} room (done h) k = walk-stop own_size s room at (Ok tt) (step_end own_size s room at h)
 laid-own rule plain zero (next r l) k = absurd (omega arith)
 laid-own rule plain {s} {at} (suc room) (next {e = e} {es = es} r l) k =
     go (laid-own rule plain room l (omega arith)) (eqb (own_field s e) ONES) refl
@@ -113,14 +112,14 @@ laid-own rule plain {s} {at} (suc room) (next {e = e} {es = es} r l) k =
 -- ---- the customer's two sentences
 
 shown-split : (s : List ℕ) (xs : List Entry) (e : Entry) (ys : List Entry) → Sized s xs → own_field s e ≡ ONES
-    → shown s (xs ++ e ∷ ys) ≡ record { rows = xs; end = Refused UnknownSize }
+    → shown s (xs ++ e ∷ ys) ≡ record { rows = xs; end = Err UnknownSize }
 unfolding Sized
 shown-split s [] e ys h o = shown-ones s e ys o
 shown-split s (x ∷ xs) e ys h o =
     shown-sized s x (xs ++ e ∷ ys) (h x (Memᴰ.head refl))
     ∙ ap (after x) (shown-split s xs e ys (λ y m. h y (Memᴰ.tail m)) o)
 
-shown-whole : (s : List ℕ) (rows : List Entry) → Sized s rows → shown s rows ≡ record { rows = rows; end = Accepted }
+shown-whole : (s : List ℕ) (rows : List Entry) → Sized s rows → shown s rows ≡ record { rows = rows; end = Ok tt }
 unfolding Sized ahead stop
 shown-whole s [] h = refl
 shown-whole s (x ∷ xs) h =
@@ -130,7 +129,7 @@ true-plain : (s : List ℕ) (h : Head) → Plain (true_size h (entries_of h s))
 unfolding Plain
 true-plain s h at name own t e = own_is h (entries_of h s) at name own t e
 
-list-walk : (s : List ℕ) (l : Listing) → listing s ≡ given l → walk32 s ≡ shown s l.rows
+list-walk : (s : List ℕ) (l : Listing) → listing s ≡ Ok l → walk32 s ≡ shown s l.rows
 unfolding walk32 walk_from
 list-walk s l e =
     let c = listing-checked s l e in
@@ -143,12 +142,12 @@ unfolding SaysOwn walk32 walk_from
 says-own s e m = go (open_for32 s) m
   where
     go : (x : Answer ℕ) → Memᴰ e (walk_from x s).rows → e.source ≡ Own
-    go (refused r) k = absurd (Memᴰ.not-nil k)
-    go (given at) k =
+    go (Err r) k = absurd (Memᴰ.not-nil k)
+    go (Ok at) k =
         walk-sources own_size (λ (x : Source). x ≡ Own) (λ at name own t p. ap (λ (x : TrueSize). x.source) (own-only at name own t p)) s LIMIT at e k
 
 -- Demand 3, first half, of every listed file.
-pub list-half : (s : List ℕ) (l : Listing) → listing s ≡ given l → ListHalf s l.rows
+pub list-half : (s : List ℕ) (l : Listing) → listing s ≡ Ok l → ListHalf s l.rows
 list-half s l e =
     record {
       stops = λ xs x ys h k o. list-walk s l e ∙ ap (shown s) h ∙ shown-split s xs x ys k o;
@@ -157,7 +156,7 @@ list-half s l e =
     }
 
 -- So of every accepted one.
-pub first-half : (s : List ℕ) (a : Scan) → scan s ≡ given a → FirstHalf s a
+pub first-half : (s : List ℕ) (a : Scan) → scan s ≡ Ok a → FirstHalf s a
 first-half s a e =
     let h = list-half s (listing_of a) (scan-listed s a e) in
     record { stops = h.stops; whole = h.whole; walk = h.walk }

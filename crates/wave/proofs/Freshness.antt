@@ -12,8 +12,7 @@ use lib.Dec.{eqb}
 use Rattle.chunk.specs.declared.Entry.{Entry}
 use Rattle.chunk.specs.declared.Refusal.{Refusal}
 use Rattle.chunk.specs.declared.Refusal.TheVariants.{BadFmt, RaggedAudio, StaleListing}
-use Rattle.chunk.specs.declared.Verdict.TheVariants.{Accepted, Refused}
-use Rattle.chunk.specs.Refusals.{Answer, refused, given, and_then, verdict_of}
+use Rattle.chunk.specs.Refusals.{Answer, Err, Ok, and_then, verdict_of}
 use Rattle.chunk.specs.Names.{FMT, DATA}
 use Rattle.chunk.specs.Tables.{find, begins, table_words, tabled}
 use Rattle.chunk.specs.Walks.{Walked}
@@ -26,11 +25,10 @@ use Rattle.fmt.proofs.Laws.{only-bad}
 use Rattle.listing.specs.declared.Listing as code
 use Rattle.listing.specs.Listings.{Listing, headers, listing}
 use Rattle.listing.specs.Code.{Fresh}
-use Rattle.wave.specs.declared.judgement.Accepted as accepted
-use Rattle.wave.specs.declared.judgement.Examined.TheVariants as examined
+use Rattle.wave.specs.declared.judgement.Accepted.{Accepted}
 use Rattle.wave.specs.Scans.{payload, whole_blocks, judged, judged_in, Scan, scan}
 use Rattle.wave.specs.Judgements.{fresh_in, judgement, FreshListing, FreshSays, Decides}
-use Rattle.wave.specs.Code.{examined_as, end_of}
+use Rattle.wave.specs.Code.{examined_as}
 use Rattle.listing.proofs.Checked.{listing-checked}
 use Rattle.listing.proofs.Listings.{keeps}
 use Rattle.wave.proofs.Ends.{fresh-headers}
@@ -92,30 +90,30 @@ module _ (s t : List ℕ) (f : FreshListing s t) where
 
 -- ---- which refusals the judgement gives
 
-judged-refuses : (rows : List Entry) (s : List ℕ) (r : Refusal) → judged_in rows s ≡ refused r → (r ≡ BadFmt) ⊎ (r ≡ RaggedAudio)
+judged-refuses : (rows : List Entry) (s : List ℕ) (r : Refusal) → judged_in rows s ≡ Err r → (r ≡ BadFmt) ⊎ (r ≡ RaggedAudio)
 unfolding judged whole_blocks and_then
 judged-refuses rows s r e = go (format_in (payload (find FMT rows) s)) refl e
   where
     size : ℕ
     size = (find DATA rows).size
 
-    ragged : (f : Format) → (r ≡ RaggedAudio) ⊎ (given f ≡ refused r) → (r ≡ BadFmt) ⊎ (r ≡ RaggedAudio)
+    ragged : (f : Format) → (r ≡ RaggedAudio) ⊎ (Ok f ≡ Err r) → (r ≡ BadFmt) ⊎ (r ≡ RaggedAudio)
     ragged f (inl q) = inr q
     ragged f (inr q) = absurd (refused-given r f (sym q))
 
-    go : (x : Answer Format) → format_in (payload (find FMT rows) s) ≡ x → and_then x (whole_blocks size) ≡ refused r
+    go : (x : Answer Format) → format_in (payload (find FMT rows) s) ≡ x → and_then x (whole_blocks size) ≡ Err r
         → (r ≡ BadFmt) ⊎ (r ≡ RaggedAudio)
-    go (refused q) p j = inl (only-bad (payload (find FMT rows) s) r (p ∙ j))
-    go (given f) p j = ragged f (check-refused (eqb (size % f.block) 0) RaggedAudio (given f) r j)
+    go (Err q) p j = inl (only-bad (payload (find FMT rows) s) r (p ∙ j))
+    go (Ok f) p j = ragged f (check-refused (eqb (size % f.block) 0) RaggedAudio (Ok f) r j)
 
 -- ---- fresh or not
 
-module _ (s t : List ℕ) (l : Listing) (e : listing s ≡ given l) where
+module _ (s t : List ℕ) (l : Listing) (e : listing s ≡ Ok l) where
   fresh-judged : begins (table_words l.rows) t ≡ true → judgement s t ≡ judged_in l.rows s
   unfolding judgement fresh_in
   fresh-judged b = and_then-at (fresh_in t (listing s)) _ l (ap (fresh_in t) e ∙ check-true _ _ _ b)
 
-  stale-judged : begins (table_words l.rows) t ≡ false → judgement s t ≡ refused StaleListing
+  stale-judged : begins (table_words l.rows) t ≡ false → judgement s t ≡ Err StaleListing
   unfolding judgement fresh_in
   stale-judged b = and_then-refused (fresh_in t (listing s)) _ StaleListing (ap (fresh_in t) e ∙ check-false _ _ _ b)
 
@@ -125,23 +123,23 @@ module _ (s t : List ℕ) (l : Listing) (e : listing s ≡ given l) where
   scan-judged = same (judged_in l.rows s) ∙ sym (ap verdict_of (and_then-at (listing s) _ l e))
     where
       same : (x : Answer Format)
-          → verdict_of x ≡ verdict_of {A = Scan} (and_then x λ f. given (record { head = l.head; rows = l.rows; format = f }))
-      same (refused r) = refl
-      same (given f) = refl
+          → verdict_of x ≡ verdict_of {A = Scan} (and_then x λ f. Ok (record { head = l.head; rows = l.rows; format = f }))
+      same (Err r) = refl
+      same (Ok f) = refl
 
-none-judged : (s t : List ℕ) (r : Refusal) → listing s ≡ refused r → judgement s t ≡ refused StaleListing
+none-judged : (s t : List ℕ) (r : Refusal) → listing s ≡ Err r → judgement s t ≡ Err StaleListing
 unfolding judgement fresh_in
 none-judged s t r e = and_then-refused (fresh_in t (listing s)) _ StaleListing (ap (fresh_in t) e)
 
 fmt-stale : BadFmt ≡ StaleListing → ⊥
-fmt-stale e = absurd (let z : ◌≡◌ {A = ℕ} 0 1 = cc in omega arith)
+fmt-stale e = cc
 
 ragged-stale : RaggedAudio ≡ StaleListing → ⊥
-ragged-stale e = absurd (let z : ◌≡◌ {A = ℕ} 0 1 = cc in omega arith)
+ragged-stale e = cc
 
 -- words that aren't fresh, and what the others are judged as
 pub decides : (s t : List ℕ) → Decides s t
-unfolding examined_as end_of verdict_of
+unfolding examined_as verdict_of
 decides s t =
     record {
       stale = (λ e f. absurd (unstale f (refuses f StaleListing e)), λ n. stale n (listing s) refl);
@@ -157,29 +155,29 @@ decides s t =
     as-scanned : FreshListing s t → verdict_of (judgement s t) ≡ verdict_of (scan s)
     as-scanned f = ap verdict_of (known f) ∙ scan-judged s t f.listed f.is
 
-    inner : (x : Answer Scan) → end_of (examined_as s x) ≡ verdict_of x
-    inner (refused r) = refl
-    inner (given a) = refl
+    inner : (x : Answer Scan) → verdict_of (examined_as s x) ≡ verdict_of x
+    inner (Err r) = refl
+    inner (Ok a) = refl
 
-    refuses : FreshListing s t → (r : Refusal) → judgement s t ≡ refused r → (r ≡ BadFmt) ⊎ (r ≡ RaggedAudio)
+    refuses : FreshListing s t → (r : Refusal) → judgement s t ≡ Err r → (r ≡ BadFmt) ⊎ (r ≡ RaggedAudio)
     refuses f r e = judged-refuses f.listed.rows s r (sym (known f) ∙ e)
 
     unstale : FreshListing s t → (StaleListing ≡ BadFmt) ⊎ (StaleListing ≡ RaggedAudio) → ⊥
     unstale f (inl q) = fmt-stale (sym q)
     unstale f (inr q) = ragged-stale (sym q)
 
-    stale : (FreshListing s t → ⊥) → (x : Answer Listing) → listing s ≡ x → judgement s t ≡ refused StaleListing
-    stale n (refused r) e = none-judged s t r e
-    stale n (given l) e = go (begins (table_words l.rows) t) refl
+    stale : (FreshListing s t → ⊥) → (x : Answer Listing) → listing s ≡ x → judgement s t ≡ Err StaleListing
+    stale n (Err r) e = none-judged s t r e
+    stale n (Ok l) e = go (begins (table_words l.rows) t) refl
       where
-        go : (b : Bool) → begins (table_words l.rows) t ≡ b → judgement s t ≡ refused StaleListing
+        go : (b : Bool) → begins (table_words l.rows) t ≡ b → judgement s t ≡ Err StaleListing
         go true q = absurd (n (record { listed = l; is = e; words = begins-tabled l.rows t q }))
         go false q = stale-judged s t l e q
 
-    all : (r : Refusal) → judgement s t ≡ refused r → (x : Answer Listing) → listing s ≡ x
+    all : (r : Refusal) → judgement s t ≡ Err r → (x : Answer Listing) → listing s ≡ x
         → (r ≡ StaleListing) ⊎ (r ≡ BadFmt) ⊎ (r ≡ RaggedAudio)
-    all r j (refused q) e = inl (refused-inj r StaleListing (sym j ∙ none-judged s t q e))
-    all r j (given l) e = go (begins (table_words l.rows) t) refl
+    all r j (Err q) e = inl (refused-inj r StaleListing (sym j ∙ none-judged s t q e))
+    all r j (Ok l) e = go (begins (table_words l.rows) t) refl
       where
         go : (b : Bool) → begins (table_words l.rows) t ≡ b → (r ≡ StaleListing) ⊎ (r ≡ BadFmt) ⊎ (r ≡ RaggedAudio)
         go true q = inr (judged-refuses l.rows s r (sym (fresh-judged s t l e q) ∙ j))
@@ -188,7 +186,7 @@ decides s t =
 -- ---- how the code ends
 
 -- the file has no listing
-pub judge-none : (s t : List ℕ) (r : Refusal) → listing s ≡ refused r → Refused StaleListing ≡ verdict_of (judgement s t)
+pub judge-none : (s t : List ℕ) (r : Refusal) → listing s ≡ Err r → Err StaleListing ≡ verdict_of (judgement s t)
 unfolding verdict_of
 judge-none s t r e = sym (ap verdict_of (none-judged s t r e))
 
@@ -199,7 +197,7 @@ module _ (s t : List ℕ) (k : code.Listing) (f : Fresh s k) (b : Bool)
   compared = sym (e ∙ ap (λ (x : Walked). begins (table_words x.rows) t) (fresh-headers s k f))
 
   -- the words are other ones
-  pub judge-stale : b ≡ false → Refused StaleListing ≡ verdict_of (judgement s t)
+  pub judge-stale : b ≡ false → Err StaleListing ≡ verdict_of (judgement s t)
   unfolding verdict_of
   judge-stale q = sym (ap verdict_of (stale-judged s t (keeps s k f).listing (keeps s k f).is (compared ∙ q)))
 
@@ -209,11 +207,11 @@ module _ (s t : List ℕ) (k : code.Listing) (f : Fresh s k) (b : Bool)
       let l = keeps s k f in
       ap verdict_of (fresh-judged s t l.listing l.is (compared ∙ q)) ∙ scan-judged s t l.listing l.is
 
-  pub judge-refused : b ≡ true → (r : Refusal) → examined_as s (scan s) ≡ examined.Refused r → Refused r ≡ verdict_of (judgement s t)
+  pub judge-refused : b ≡ true → (r : Refusal) → examined_as s (scan s) ≡ Err r → Err r ≡ verdict_of (judgement s t)
   unfolding verdict_of
   judge-refused q r j = sym (as-scan q ∙ ap verdict_of (examined-refused s (scan s) r j))
 
-  pub judge-accepted : b ≡ true → (n : accepted.Accepted) → examined_as s (scan s) ≡ examined.Accepted n
-      → Accepted ≡ verdict_of (judgement s t)
+  pub judge-accepted : b ≡ true → (n : Accepted) → examined_as s (scan s) ≡ Ok n
+      → Ok tt ≡ verdict_of (judgement s t)
   unfolding verdict_of
   judge-accepted q n j = sym (as-scan q ∙ ap verdict_of (examined-accepted s (scan s) n j).is)

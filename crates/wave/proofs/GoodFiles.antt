@@ -15,7 +15,7 @@ use Rattle.le.specs.Number.{bytes, field, number}
 use Rattle.le.proofs.Laws.{bytes-length, number_at, drop_past, field_at}
 use Rattle.chunk.specs.declared.Entry.{Entry}
 use Rattle.chunk.specs.declared.Refusal.TheVariants.{Unfinished, RaggedAudio}
-use Rattle.chunk.specs.Refusals.{given}
+use Rattle.chunk.specs.Refusals.{Ok}
 use Rattle.chunk.specs.Names.{WAVE, FMT, DATA, FACT}
 use Rattle.chunk.specs.Fields.{ONES}
 use Rattle.chunk.specs.Tables.{count, find}
@@ -90,7 +90,7 @@ record Fits (c : Chunk) : Type 0 where
 
 -- a chunk's row, and rows laid after it
 laid_next : {rule : Rule} {s : List ℕ} {at : ℕ} {c : Chunk} {rest : List ℕ} {rows : List Entry} → Fits c → Stands s at c rest
-    → rule at c.name c.field ≡ given (size_of c) → Laid rule s (at + length (chunk_bytes c)) rows
+    → rule at c.name c.field ≡ Ok (size_of c) → Laid rule s (at + length (chunk_bytes c)) rows
     → Laid rule s at (row_at at c ∷ rows)
 unfolding row_at past
 laid_next {rule} {s} {at} {c} {rest} {rows} f w h l =
@@ -101,7 +101,7 @@ laid_next {rule} {s} {at} {c} {rest} {rows} f w h l =
 
 laid-all : (rule : Rule) (s : List ℕ) (at : ℕ) (cs : List Chunk) → at ≤ length s → drop at s ≡ all_bytes cs
     → ((c : Chunk) → Memᴰ c cs → Fits c)
-    → ((p : ℕ) (c : Chunk) → Memᴰ c cs → rule p c.name c.field ≡ given (size_of c))
+    → ((p : ℕ) (c : Chunk) → Memᴰ c cs → rule p c.name c.field ≡ Ok (size_of c))
     → Laid rule s at (rows_at at cs)
 unfolding all_bytes rows_at
 laid-all rule s at [] k e f g =
@@ -254,22 +254,22 @@ module _ (s : List ℕ) (l : Listing) (g : GoodShape s l) where
 
   -- ---- checks 1 to 5
 
-  head-is : head_as form s ≡ given l.head
+  head-is : head_as form s ≡ Ok l.head
   unfolding head_as wide_as is_wide
   head-is = go form refl
     where
-      wide : (x : Form) → form ≡ x → is_wide x ≡ true → head_as x s ≡ given l.head
+      wide : (x : Form) → form ≡ x → is_wide x ≡ true → head_as x s ≡ Ok l.head
       wide x e w =
           let v : is_wide form ≡ true = ap is_wide e ∙ w in
           head-wide x s w (ds64-good v)
-          ∙ ap given (λ i. record { form = sym e i; ds64 = (numbers-are v).0 i })
+          ∙ ap Ok (λ i. record { form = sym e i; ds64 = (numbers-are v).0 i })
 
-      go : (x : Form) → form ≡ x → head_as x s ≡ given l.head
+      go : (x : Form) → form ≡ x → head_as x s ≡ Ok l.head
       go Riff e =
           let v : is_wide form ≡ false = ap is_wide e in
           check-true (not (eqb (number 4 4 s) ONES)) Unfinished _
           (ap not (ne_eqb (number 4 4 s) ONES (λ o. true-false (is_wide form) (g.ones (sym header.own ∙ o)).0 v)))
-          ∙ ap given (λ i. record { form = sym e i; ds64 = sym (g.riff v).0 i })
+          ∙ ap Ok (λ i. record { form = sym e i; ds64 = sym (g.riff v).0 i })
       go Rf64 e = wide Rf64 e refl
       go Bw64 e = wide Bw64 e refl
 
@@ -308,7 +308,7 @@ module _ (s : List ℕ) (l : Listing) (g : GoodShape s l) where
       go (inr w) = (numbers-are w).1
 
   size-known : (p : ℕ) (c : Chunk) → Memᴰ c g.chunks → stray_ds64 form p c.name ≡ false
-      → rule p c.name c.field ≡ given (size_of c)
+      → rule p c.name c.field ≡ Ok (size_of c)
   size-known p c m h =
       ap (λ (ks : List Ds64Entry). true_size l.head ks p c.name c.field) entries-are
       ∙ told-size l.head g.entries p c.name c.field (size_of c) h (g.good c m).sized
@@ -362,7 +362,7 @@ module _ (s : List ℕ) (l : Listing) (g : GoodShape s l) where
   good-checked = record { opened = opened; laid = laid; few = rows_few; chunked = chunked }
 
   -- A file of a good shape is listed, with its form and its table.
-  pub good-listing : listing s ≡ given l
+  pub good-listing : listing s ≡ Ok l
   good-listing = checked-listing s l good-checked
 
 -- ---- checks 11 and 12
@@ -392,7 +392,7 @@ shape_of s a g =
     }
 
 module _ (s : List ℕ) (a : Scan) (g : GoodFile s a) where
-  format-is : judged_in a.rows s ≡ given a.format
+  format-is : judged_in a.rows s ≡ Ok a.format
   unfolding judged whole_blocks payload
   format-is =
       let h = shape_of s a g in
@@ -403,11 +403,11 @@ module _ (s : List ℕ) (a : Scan) (g : GoodFile s a) where
       let size : ℕ = (find DATA a.rows).size in
       and_then-at (format_in (payload (find FMT a.rows) s)) (λ (x : Format). whole_blocks size x) a.format
       (ap format_in c.holds ∙ g.format c.chunk c.mem (c.named ∙ (found FMT a.rows hf).named))
-      ∙ check-true (eqb (size % a.format.block) 0) RaggedAudio (given a.format)
+      ∙ check-true (eqb (size % a.format.block) 0) RaggedAudio (Ok a.format)
       (eq-eqb (size % a.format.block) 0
       (ap (λ (n : ℕ). n % a.format.block) (sym d.sized)
       ∙ g.blocks d.chunk d.mem (d.named ∙ (found DATA a.rows hd).named)))
 
   -- A good file is accepted, with its form, its table and its format.
-  pub good-scan : scan s ≡ given a
+  pub good-scan : scan s ≡ Ok a
   good-scan = scanned-scan s a (record { listed = good-checked s (listing_of a) (shape_of s a g); format = format-is })

@@ -1,4 +1,5 @@
 pub mod AcceptsExactly
+pub mod Again
 pub mod Compared
 pub mod Ds64Bytes
 pub mod Ends

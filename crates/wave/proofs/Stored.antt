@@ -3,43 +3,29 @@
 -- end.
 -- Assumes nothing.
 use mathlib.Core.Path.{◌≡◌, refl, sym, ap, ap₂, ◌∙◌, subst}
-use mathlib.Core.Bool.{true, false, not}
 use mathlib.Core.List.{List, [], ◌∷◌}
 use Prim.Native.Nat.{ℕ, suc, ◌+◌, ◌-◌, ◌*◌, ◌%◌, ◌≤◌, ◌<◌}
 use native.Mathlib.Nat.{zero-add, add-zero}
 use native.Mathlib.Omega.{arith}
 use lib.ListN.{length, set, length-set}
 use lib.Seq.{sets, length-sets}
-use lib.Dec.{eqb}
-use borrow.Author.Tests.{eq-eqb}
-use Rattle.le.specs.Number.{number}
 use Rattle.chunk.specs.declared.Entry.{Entry}
-use Rattle.chunk.specs.declared.Header.{Header}
-use Rattle.chunk.specs.declared.TrueSize.{TrueSize}
-use Rattle.chunk.specs.declared.Refusal.TheVariants.{CutHeader, TooMany, BadDs64}
-use Rattle.chunk.specs.declared.Verdict.{Verdict}
-use Rattle.chunk.specs.declared.Verdict.TheVariants.{Accepted, Refused}
+use Rattle.chunk.specs.declared.Refusal.TheVariants.{CutHeader, TooMany}
 use Rattle.chunk.specs.declared.Step.{Step}
 use Rattle.chunk.specs.declared.Step.TheVariants.{Chunk, Last, Cut, Stop}
-use Rattle.chunk.specs.Refusals.{given}
-use Rattle.chunk.specs.Fields.{ONES}
+use Rattle.chunk.specs.Refusals.{Err, Ok, Verdict}
 use Rattle.chunk.specs.Tables.{row_words, set_row, tabled, LIMIT, WORDS}
-use Rattle.chunk.specs.Walks.{Rule, Walked, entry_of, past, step_at, walk, field_size, own_size}
+use Rattle.chunk.specs.Walks.{Rule, Walked, step_at, walk, own_size}
 use Rattle.chunk.specs.Walks as walks
-use Rattle.chunk.specs.Code.{HeaderAt, Due, step_on, walk_after, full}
-use Rattle.chunk.proofs.Checks.{check-given, pick_true, true-false}
-use Rattle.chunk.proofs.Laid.{row-size, Laid, next, row_fits, step_end, walk-stop, walk-laid, laid-walk, Lies, laid-lies, Shown, relaid, own-given, own-only}
+use Rattle.chunk.specs.Code.{Due, step_on, walk_after, full}
+use Rattle.chunk.proofs.Laid.{step_end, walk-stop}
 use Rattle.chunk.proofs.Turns.{turn, turn-due, walk-full, step_cut}
 use Rattle.chunk.proofs.Filled.{filled, filled-tabled, row-length}
-use Rattle.form.specs.declared.Form.{Form}
-use Rattle.form.specs.declared.Form.TheVariants.{Riff, Rf64, Bw64}
 use Rattle.form.specs.declared.Head.{Head}
-use Rattle.form.specs.Forms.{is_wide}
-use Rattle.truesize.specs.Sizes.{true_size, ones_size, stray_ds64, entries_of}
-use Rattle.truesize.proofs.Sizes.{own_is, riff-own}
 use Rattle.listing.specs.Listings.{headers}
 use Rattle.listing.specs.Code.{rule}
-use Rattle.wave.specs.Code.{rows_from, WalkStored, Finishes, Rowed, WideRows, Fills}
+use Rattle.wave.specs.Code.{rows_from, WalkStored, Finishes, Ended}
+use Rattle.wave.proofs.Again.{Again, again-start, Turn, again-turn, again-end}
 
 -- ---- rows stored from a word on
 
@@ -177,13 +163,13 @@ storing-stop s w₀ w place used found v w' g l u p q f =
 
 -- the table is full
 pub storing-full : (s w₀ w : List ℕ) (place used : ℕ) → Storing s w₀ w place used → WORDS ≤ length w₀ → LIMIT ≤ used
-    → WalkStored own_size s w₀ (Refused TooMany) (set w 0 used)
+    → WalkStored own_size s w₀ (Err TooMany) (set w 0 LIMIT)
 unfolding full rows_from
 storing-full s w₀ w place used g l u =
     let p : LIMIT - used ≡ 0 = omega arith in
     let k = ap (λ (n : ℕ). walk own_size s n (place - 8)) p ∙ walk-full own_size s (place - 8) (omega (arith, g.due.start, g.due.whole)) in
     storing-ends s w₀ w place used _ _ _ g l (omega (arith, g.few, g.count, ap (λ (x : Walked). length x.rows) k)) k
-    (record { verdict = refl; words = ap (set w 0) (sym (add-zero used)) })
+    (record { verdict = refl; words = ap (set w 0) (let e : LIMIT ≡ used + 0 = omega (arith, g.few) in e) })
 
 -- no whole header at byte 12
 bare : (s w : List ℕ) (v : Verdict) → WORDS ≤ length w → step_at own_size s LIMIT 12 ≡ walks.Stop v → WalkStored own_size s w v (set w 0 0)
@@ -194,169 +180,60 @@ bare s w v l q =
       words = none-tabled w (omega arith) ∙ sym (ap (λ (x : Walked). tabled x.rows w) k);
     }
 
-pub bare-end : (s w : List ℕ) → WORDS ≤ length w → length s ≡ 12 → WalkStored own_size s w Accepted (set w 0 0)
-bare-end s w l h = bare s w Accepted l (step_end own_size s LIMIT 12 (sym h))
+pub bare-end : (s w : List ℕ) → WORDS ≤ length w → length s ≡ 12 → WalkStored own_size s w (Ok tt) (set w 0 0)
+bare-end s w l h = bare s w (Ok tt) l (step_end own_size s LIMIT 12 (sym h))
 
-pub bare-cut : (s w : List ℕ) → WORDS ≤ length w → 12 < length s → length s < 20 → WalkStored own_size s w (Refused CutHeader) (set w 0 0)
-bare-cut s w l h k = bare s w (Refused CutHeader) l (step_cut own_size s LIMIT 12 h (omega arith))
+pub bare-cut : (s w : List ℕ) → WORDS ≤ length w → 12 < length s → length s < 20 → WalkStored own_size s w (Err CutHeader) (set w 0 0)
+bare-cut s w l h k = bare s w (Err CutHeader) l (step_cut own_size s LIMIT 12 h (omega arith))
 
--- ---- an accepted file, read once more
+-- ---- a listed file's rows
 
--- the rows from a place on, and those that stand ahead
-pub record Filling (rule : Rule) (s w₀ w : List ℕ) (stop place row : ℕ) : Type 0 where
+-- of these rows those that are left are due to be stored
+pub record Filling (r : Rule) (rows : List Entry) (s w₀ w : List ℕ) (n place i : ℕ) : Type 0 where
   pub left : List Entry
-  pub start : 8 ≤ place
-  pub even : place % 2 ≡ 0
-  pub laid : Laid rule s (place - 8) left
-  pub stops : row + 4 * length left ≡ stop
-  pub room : stop ≤ length w₀
+  pub again : Again r s n place i left
+  pub room : 1 + 4 * n ≤ length w₀
   pub same : length w ≡ length w₀
-  pub words : rows_from w row left ≡ rows_from w₀ 1 (walk rule s LIMIT 12).rows
+  pub words : rows_from w (1 + 4 * i) left ≡ rows_from w₀ 1 rows
 
-pub filling-start : (rule : Rule) (s : List ℕ) (stop : ℕ) (w : List ℕ) → Rowed rule s stop w → Filling rule s w w stop 20 1
-filling-start rule s stop w r =
-    let l = walk-laid rule s LIMIT 12 r.end in
-    record {
-      left = (walk rule s LIMIT 12).rows;
-      start = omega arith;
-      even = refl;
-      laid = l.laid;
-      stops = sym r.stops;
-      room = omega (arith, r.stops, l.few, r.room);
-      same = refl;
-      words = refl;
-    }
+pub filling-start : (h : Head) (s w : List ℕ) (n : ℕ) → Ended h s n → 1 + 4 * n ≤ length w
+    → Filling (rule h s) (headers h s).rows s w w n 20 0
+filling-start h s w n e l =
+    record { left = (headers h s).rows; again = again-start h s n e; room = l; same = refl; words = refl }
 
 -- the row at a place, and the rest after it is stored
-pub record Ahead (rule : Rule) (s w₀ w : List ℕ) (stop place row : ℕ) : Type 0 where
-  pub entry : Entry
-  pub whole : place ≤ length s
-  pub sized : rule (place - 8) (number 4 (place - 8) s) (number 4 (place - 4) s) ≡ given (row-size entry)
-  pub ends : place + entry.size + entry.size % 2 ≤ length s
-  pub holds : row + 4 ≤ length w
-  pub after : (name : ℕ) (size : TrueSize) (x : Entry) (v : List ℕ) (to : ℕ) → name ≡ number 4 (place - 8) s
-      → size ≡ row-size entry → x ≡ entry_of place name size → v ≡ sets w row (row_words x)
-      → to ≡ place + size.bytes + size.bytes % 2 + 8 → Filling rule s w₀ v stop to (row + 4)
+pub record Ahead (r : Rule) (rows : List Entry) (s w₀ w : List ℕ) (n place i : ℕ) (left : List Entry) : Type 0 where
+  pub turn : Turn r s n place i left
+  pub holds : 1 + 4 * i + 4 ≤ length w
+  pub after : (x : Entry) (v : List ℕ) (to : ℕ) → x ≡ turn.entry → v ≡ sets w (1 + 4 * i) (row_words x)
+      → to ≡ place + x.size + x.size % 2 + 8 → Filling r rows s w₀ v n to (i + 1)
 
-pub filling-next : (rule : Rule) (s w₀ w : List ℕ) (stop place row : ℕ) → Filling rule s w₀ w stop place row → row < stop
-    → Ahead rule s w₀ w stop place row
-unfolding rows_from past
-filling-next rule s w₀ w stop place row f h = go f.left f.laid f.stops f.words
-  where
-    same : (x : Entry) (name : ℕ) (size : TrueSize) → name ≡ x.name → size ≡ row-size x → x.place ≡ place → entry_of place name size ≡ x
-    same x name size n z p = λ i. entry_of (sym p i) (n i) (z i)
-
-    go : (left : List Entry) → Laid rule s (place - 8) left → row + 4 * length left ≡ stop
-        → rows_from w row left ≡ rows_from w₀ 1 (walk rule s LIMIT 12).rows → Ahead rule s w₀ w stop place row
-    go [] l n e = absurd (omega arith)
-    go (x ∷ xs) (next r l) n e =
-        let p : x.place ≡ place = omega (arith, r.place, f.start) in
-        let q : place - 8 + 4 ≡ place - 4 = omega (arith, f.start) in
-        record {
-          entry = x;
-          whole = omega (arith, row_fits r, f.start);
-          sized = rw q at (ap (λ (n : ℕ). rule (place - 8) n (number 4 (place - 8 + 4) s)) r.named ∙ r.sized);
-          ends = omega (arith, r.ends, p);
-          holds = omega (arith, f.same, f.room);
-          after = λ name size y v to nm sz is st at.
-              let b : to - 8 ≡ past x = omega (arith, at, p, ap (λ (t : TrueSize). t.bytes) sz) in
-              let here : y ≡ x = is ∙ same x name size (nm ∙ r.named) sz p in
-              record {
-                left = xs;
-                start = omega (arith, at);
-                even = omega (arith, at, f.even);
-                laid = subst (λ (k : ℕ). Laid rule s k xs) (sym b) l;
-                stops = omega arith;
-                room = f.room;
-                same = ap length st ∙ length-sets w row (row_words y) ∙ f.same;
-                words = ap (λ (u : List ℕ). rows_from u (row + 4) xs) (st ∙ ap (λ (z : Entry). sets w row (row_words z)) here) ∙ e;
-              };
-        }
-
-pub filling-end : (rule : Rule) (s w₀ w : List ℕ) (stop place row : ℕ) → Filling rule s w₀ w stop place row → (row < stop → ⊥)
-    → w ≡ rows_from w₀ 1 (walk rule s LIMIT 12).rows
-unfolding rows_from
-filling-end rule s w₀ w stop place row f h = go f.left f.stops f.words
-  where
-    go : (left : List Entry) → row + 4 * length left ≡ stop → rows_from w row left ≡ rows_from w₀ 1 (walk rule s LIMIT 12).rows
-        → w ≡ rows_from w₀ 1 (walk rule s LIMIT 12).rows
-    go [] n e = e
-    go (x ∷ xs) n e = absurd (h (omega arith))
-
--- ---- the size of a row, from its header
-
--- in the 32-bit walk the field is the size
-pub own-size : (s : List ℕ) (place : ℕ) (x : Header) (t : TrueSize) → HeaderAt place s x
-    → own_size (place - 8) (number 4 (place - 8) s) (number 4 (place - 4) s) ≡ given t → field_size x.field ≡ t
-own-size s place x t a e = ap field_size a.field ∙ sym (own-only (place - 8) (number 4 (place - 8) s) (number 4 (place - 4) s) t e)
-
-module _ (h : Head) (s : List ℕ) (place : ℕ) (x : Header) (t : TrueSize) (a : HeaderAt place s x)
-    (e : rule h s (place - 8) (number 4 (place - 8) s) (number 4 (place - 4) s) ≡ given t) where
-  -- in the scan too, where it is not all ones
-  pub true-size : (x.field ≡ ONES → ⊥) → field_size x.field ≡ t
-  true-size n = ap field_size a.field ∙ sym (own_is h (entries_of h s) _ _ _ t e (λ q. n (a.field ∙ q)))
-
-  -- where it is all ones, ds64 knows the size
-  pub ones-size : x.field ≡ ONES → ones_size h.form h.ds64 (entries_of h s) x.name ≡ given t
-  unfolding true_size
-  ones-size q =
-      ap (ones_size h.form h.ds64 (entries_of h s)) a.name
-      ∙ sym (pick_true (eqb (number 4 (place - 4) s) ONES) _ _ (eq-eqb _ ONES (sym a.field ∙ q)))
-      ∙ (check-given (not (stray_ds64 h.form (place - 8) (number 4 (place - 8) s))) BadDs64 _ t e).1
-
--- ---- in RIFF every field is the size
-
-pub riff-headers : (h : Head) (s : List ℕ) → is_wide h.form ≡ false → (headers h s).end ≡ Accepted
-    → walk own_size s LIMIT 12 ≡ headers h s
-unfolding headers is_wide
-riff-headers h s w e =
-    let l = walk-laid (true_size h (entries_of h s)) s LIMIT 12 e in
-    laid-walk LIMIT (relaid own_size s refl (λ x m. own x (laid-lies l.laid m)) l.laid) l.few
-    ∙ sym (laid-walk LIMIT l.laid l.few)
-  where
-    riff : (f : Form) → is_wide f ≡ false → f ≡ Riff
-    riff Riff k = refl
-    riff Rf64 k = absurd (true-false true refl k)
-    riff Bw64 k = absurd (true-false true refl k)
-
-    own : (x : Entry) → Lies (true_size h (entries_of h s)) s 12 x → Shown own_size s x
-    own x y =
-        let at = x.place - 8 in
-        let field = number 4 (x.place - 4) s in
-        let k = riff-own h (entries_of h s) at x.name field (row-size x) y.sized (riff h.form w) in
-        let t = own_is h (entries_of h s) at x.name field (row-size x) y.sized k in
-        record { named = y.named; sized = own-given at x.name field k ∙ ap given (sym t) }
-
--- ---- the table of an accepted file
-
-module _ (h : Head) (s : List ℕ) (n : ℕ) (w : List ℕ) (f : Fills h s n w) where
-  pub fills-few : n ≤ LIMIT
-  unfolding headers
-  fills-few = omega (arith, f.count, (walk-laid (rule h s) s LIMIT 12 f.end).few)
-
-  pub fills-wide : WideRows h s (1 + 4 * n) w
-  unfolding headers
-  fills-wide =
+module _ (r : Rule) (rows : List Entry) (s w₀ w : List ℕ) (n place i : ℕ) (f : Filling r rows s w₀ w n place i) where
+  pub filling-next : i < n → Ahead r rows s w₀ w n place i f.left
+  unfolding rows_from
+  filling-next k =
+      let t = again-turn r s n place i f.left f.again k in
+      let y : 1 + 4 * i + 4 ≡ 1 + 4 * (i + 1) = omega arith in
       record {
-        fit = f.fit;
-        rows = record { long = f.long; end = f.end; stops = ap (λ (k : ℕ). 1 + 4 * k) f.count; room = f.room };
+        turn = t;
+        holds = omega (arith, f.same, f.room);
+        after = λ x v to z p q. record {
+          left = t.rest;
+          again = t.after to (q ∙ ap (λ (e : Entry). place + e.size + e.size % 2 + 8) z);
+          room = f.room;
+          same = ap length p ∙ length-sets w (1 + 4 * i) (row_words x) ∙ f.same;
+          words =
+              ap₂ (λ (u : List ℕ) (m : ℕ). rows_from u m t.rest)
+              (p ∙ ap (λ (e : Entry). sets w (1 + 4 * i) (row_words e)) z) (sym y)
+              ∙ sym (ap (rows_from w (1 + 4 * i)) t.split) ∙ f.words;
+        };
       }
 
-  pub fills-own : is_wide h.form ≡ false → Rowed own_size s (1 + 4 * n) w
-  fills-own k =
-      let p = riff-headers h s k f.end in
-      record {
-        long = f.long;
-        end = ap (λ (x : Walked). x.end) p ∙ f.end;
-        stops = ap (λ (k : ℕ). 1 + 4 * k) (f.count ∙ sym (ap (λ (x : Walked). length x.rows) p));
-        room = f.room;
-      }
+  pub filling-end : n ≤ i → w ≡ rows_from w₀ 1 rows
+  unfolding rows_from
+  filling-end k = sym (ap (rows_from w (1 + 4 * i)) (again-end f.again k)) ∙ f.words
 
-  -- the rows that are stored in RIFF are those of the scan's walk
-  pub fills-rows : is_wide h.form ≡ false → rows_from w 1 (walk own_size s LIMIT 12).rows ≡ rows_from w 1 (headers h s).rows
-  fills-rows k = ap (λ (x : Walked). rows_from w 1 x.rows) (riff-headers h s k f.end)
-
-  pub fills-tabled : (w' : List ℕ) → w' ≡ rows_from w 1 (headers h s).rows → set w' 0 n ≡ tabled (headers h s).rows w
-  fills-tabled w' p =
-      ap (λ (x : List ℕ). set x 0 n) p
-      ∙ rows-tabled w (headers h s).rows n f.count (omega (arith, f.room, f.count, fills-few))
+pub filled-table : (h : Head) (s w w' : List ℕ) (n : ℕ) → Ended h s n → 1 + 4 * n ≤ length w → w' ≡ rows_from w 1 (headers h s).rows
+    → set w' 0 n ≡ tabled (headers h s).rows w
+filled-table h s w w' n e l p =
+    ap (λ (x : List ℕ). set x 0 n) p ∙ rows-tabled w (headers h s).rows n e.count (omega (arith, l, e.count))

@@ -7,7 +7,7 @@ use Prim.Native.Nat.{ℕ, ◌-◌, ◌≤◌}
 use native.Mathlib.Omega.{arith}
 use lib.ListN.{length}
 use Rattle.chunk.specs.declared.Entry.{Entry}
-use Rattle.chunk.specs.Refusals.{given}
+use Rattle.chunk.specs.Refusals.{Ok}
 use Rattle.chunk.specs.Walks.{Rule, past}
 use Rattle.chunk.proofs.Laid.{row-size, Row, Laid, done, next, laid-lies}
 use Rattle.form.proofs.Heads.{wide-head, ds64-rules}
@@ -35,7 +35,7 @@ pub laid-first : {rule : Rule} {s : List ℕ} {at : ℕ} (rows : List Entry) →
 laid-first [] (done h) k = absurd (k h)
 laid-first (e ∷ es) (next r l) k = (e, es, refl, r, l)
 
-pub list-tables : (s : List ℕ) (l : Listing) → listing s ≡ given l → ListedTable s l
+pub list-tables : (s : List ℕ) (l : Listing) → listing s ≡ Ok l → ListedTable s l
 unfolding own_field
 list-tables s l e =
     let c = listing-checked s l e in
@@ -66,7 +66,7 @@ list-tables s l e =
     }
 
 -- So of every accepted one.
-pub tables : (s : List ℕ) (a : Scan) → scan s ≡ given a → GoodTable s a
+pub tables : (s : List ℕ) (a : Scan) → scan s ≡ Ok a → GoodTable s a
 tables s a e =
     let t = list-tables s (listing_of a) (scan-listed s a e) in
     record {

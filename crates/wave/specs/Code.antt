@@ -1,13 +1,11 @@
 -- What the code alone needs: the judgement of a listing, what is known of an accepted file, and rows stored into words.
-use Rattle.std.specs.Prelude.{ℕ, ◌+◌, ◌*◌, ◌≤◌, ◌≡◌, List, [], ◌∷◌, length, set}
+use Rattle.std.specs.Prelude.{ℕ, ◌+◌, ◌-◌, ◌*◌, ◌≤◌, ◌≡◌, List, [], ◌∷◌, length, set}
 use Rattle.std.proofs.lemmas.List.Edits.{sets}
-use Rattle.le.specs.Number.{field}
+use Rattle.le.specs.Number.{number, field}
 use Rattle.chunk.specs.declared.Entry.{Entry}
-use Rattle.chunk.specs.declared.Verdict.{Verdict}
-use Rattle.chunk.specs.declared.Verdict.TheVariants as verdict
-use Rattle.chunk.specs.Refusals.{Answer, refused, given}
+use Rattle.chunk.specs.Refusals.{Answer, Err, Ok, Verdict, and_then}
 use Rattle.chunk.specs.Names.{DATA}
-use Rattle.chunk.specs.Tables.{find, row_words, tabled, LIMIT, WORDS}
+use Rattle.chunk.specs.Tables.{find, row_words, tabled, LIMIT}
 use Rattle.chunk.specs.Walks.{Rule, Walked, walk}
 use Rattle.chunk.specs.Code.{header_of}
 use Rattle.form.specs.declared.Head.{Head}
@@ -16,31 +14,21 @@ use Rattle.truesize.specs.Code.{EntriesFit}
 use Rattle.fmt.specs.declared.Format.{Format}
 use Rattle.listing.specs.declared.Listing as code
 use Rattle.wave.specs.declared.judgement.Accepted.{Accepted}
-use Rattle.wave.specs.declared.judgement.Examined.{Examined}
-use Rattle.wave.specs.declared.judgement.Examined.TheVariants as examined
-use Rattle.wave.specs.declared.judgement.Found.{Found}
-use Rattle.wave.specs.declared.judgement.Judging.{Judging}
-use Rattle.wave.specs.declared.judgement.Judging.TheVariants as judging
 use Rattle.wave.specs.declared.judgement.Surveyed.{Surveyed}
-use Rattle.wave.specs.declared.judgement.Surveyed.TheVariants as surveyed
 use Rattle.listing.specs.Listings.{Listing, headers}
-use Rattle.listing.specs.Code.{payload_of, rule, fact_in, kept_of}
+use Rattle.listing.specs.Code.{payload_of, fact_in, listed_as}
 use Rattle.wave.specs.Scans.{Scan, judged}
 
 -- ---- the judgement
 
--- the fmt payload of a listing lies in the file
-pub record FmtFits (l : code.Listing) (s : List ℕ) : Type 0 where
-  pub inside : l.fmt.place + l.fmt.size ≤ length s
+-- what checks 11 and 12 say of a listed file
+unfoldable pub judge_of : code.Listing → List ℕ → Answer Format
+judge_of l s = judged (field l.fmt.size l.fmt.place s) l.audio.size
 
-unfoldable pub judged_as : code.Listing → Answer Format → Examined
-judged_as l (refused r) = examined.Refused r
-judged_as l (given f) =
-    examined.Accepted
-    (record { head = l.head; first = l.first; audio = l.audio; fact = l.fact; count = l.count; format = f })
-
-unfoldable pub judge_of : code.Listing → List ℕ → Examined
-judge_of l s = judged_as l (judged (field l.fmt.size l.fmt.place s) l.audio.size)
+-- what is known of a listed file with a good format
+abbrev pub known_of : code.Listing → Format → Accepted
+known_of l f =
+    record { head = l.head; first = l.first; audio = l.audio; fact = l.fact; count = l.count; format = f }
 
 -- what the code knows of an accepted file besides its table
 unfoldable pub accepted_of : List ℕ → Scan → Accepted
@@ -54,31 +42,18 @@ accepted_of s a =
       format = a.format;
     }
 
--- what checks 11 and 12 say of a listed file
-unfoldable pub judging_as : Answer Format → Judging
-judging_as (refused r) = judging.Bad r
-judging_as (given f) = judging.Good f
-
-unfoldable pub judging_of : code.Listing → List ℕ → Judging
-judging_of l s = judging_as (judged (field l.fmt.size l.fmt.place s) l.audio.size)
-
--- what is kept of a listing, but for its fmt
-unfoldable pub found_of : code.Listing → Found
-found_of l = record { head = l.head; first = l.first; audio = l.audio; fact = l.fact; count = l.count }
+-- a listed file, and what 11 and 12 say of it
+unfoldable pub surveyed_of : List ℕ → code.Listing → Surveyed
+surveyed_of s k = record { listing = k; said = judge_of k s }
 
 -- what checks 1 to 10 say of a file, and of a listed one what 11 and 12 say
-unfoldable pub surveyed_as : List ℕ → Answer Listing → Surveyed
-surveyed_as s (refused r) = surveyed.Refused r
-surveyed_as s (given l) = surveyed.Listed (found_of (kept_of s l)) (judging_of (kept_of s l) s)
+unfoldable pub surveyed_as : List ℕ → Answer Listing → Answer Surveyed
+unfolding and_then
+surveyed_as s x = and_then (listed_as s x) λ k. Ok (surveyed_of s k)
 
-unfoldable pub examined_as : List ℕ → Answer Scan → Examined
-examined_as s (refused r) = examined.Refused r
-examined_as s (given a) = examined.Accepted (accepted_of s a)
-
--- how an examination ends
-unfoldable pub end_of : Examined → Verdict
-end_of (examined.Accepted a) = verdict.Accepted
-end_of (examined.Refused r) = verdict.Refused r
+unfoldable pub examined_as : List ℕ → Answer Scan → Answer Accepted
+examined_as s (Err r) = Err r
+examined_as s (Ok a) = Ok (accepted_of s a)
 
 -- ---- rows into words
 
@@ -97,39 +72,18 @@ pub record Finishes (used : ℕ) (rest : Walked) (w : List ℕ) (v : Verdict) (w
   pub verdict : v ≡ rest.end
   pub words : w' ≡ set (rows_from w (1 + 4 * used) rest.rows) 0 (used + length rest.rows)
 
--- a walk by a rule came to the end of the file, and there are words for its rows, which end at a word
-pub record Rowed (r : Rule) (s : List ℕ) (stop : ℕ) (w : List ℕ) : Type 0 where
-  pub long : 12 ≤ length s
-  pub end : (walk r s LIMIT 12).end ≡ verdict.Accepted
-  pub stops : stop ≡ 1 + 4 * length (walk r s LIMIT 12).rows
-  pub room : WORDS ≤ length w
+-- ---- a listed file, read once more
 
-pub record WideRows (h : Head) (s : List ℕ) (stop : ℕ) (w : List ℕ) : Type 0 where
-  pub fit : EntriesFit h s
-  pub rows : Rowed (rule h s) s stop w
-
--- the scan's walk came to the end of the file with as many rows, and there are words for them
-pub record Fills (h : Head) (s : List ℕ) (n : ℕ) (w : List ℕ) : Type 0 where
-  pub long : 12 ≤ length s
-  pub fit : EntriesFit h s
-  pub end : (headers h s).end ≡ verdict.Accepted
-  pub count : n ≡ length (headers h s).rows
-  pub room : WORDS ≤ length w
-
--- ---- rows compared with words
-
--- a walk by a rule came to the end of the file, and there are words for its rows, which end at a word; more aren't asked for
-pub record Compares (r : Rule) (s : List ℕ) (stop : ℕ) (w : List ℕ) : Type 0 where
-  pub end : (walk r s LIMIT 12).end ≡ verdict.Accepted
-  pub stops : stop ≡ 1 + 4 * length (walk r s LIMIT 12).rows
-  pub room : stop ≤ length w
-
-pub record WideCompares (h : Head) (s : List ℕ) (stop : ℕ) (w : List ℕ) : Type 0 where
-  pub fit : EntriesFit h s
-  pub rows : Compares (rule h s) s stop w
-
--- the listing's walk came to the end of the file with as many rows
+-- its walk came to the end with so many rows
 pub record Ended (h : Head) (s : List ℕ) (n : ℕ) : Type 0 where
   pub fit : EntriesFit h s
-  pub end : (headers h s).end ≡ verdict.Accepted
+  pub end : (headers h s).end ≡ Ok tt
   pub count : n ≡ length (headers h s).rows
+
+-- the chunk whose payload starts at a place, by a rule
+pub record EntryAt (r : Rule) (s : List ℕ) (place : ℕ) (e : Entry) : Type 0 where
+  pub start : 8 ≤ place
+  pub whole : place ≤ length s
+  pub stands : e.place ≡ place
+  pub named : e.name ≡ number 4 (place - 8) s
+  pub sized : r (place - 8) (number 4 (place - 8) s) (number 4 (place - 4) s) ≡ Ok (record { bytes = e.size; source = e.source })

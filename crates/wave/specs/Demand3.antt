@@ -5,8 +5,7 @@ use Rattle.le.specs.Choice.{pick}
 use Rattle.chunk.specs.declared.Entry.{Entry}
 use Rattle.chunk.specs.declared.Source.TheVariants.{Own}
 use Rattle.chunk.specs.declared.Refusal.TheVariants.{UnknownSize}
-use Rattle.chunk.specs.declared.Verdict.{Verdict}
-use Rattle.chunk.specs.declared.Verdict.TheVariants.{Accepted, Refused}
+use Rattle.chunk.specs.Refusals.{Err, Ok, Verdict}
 use Rattle.chunk.specs.Fields.{ONES}
 use Rattle.wave.specs.Scans.{Scan, walk32}
 use Rattle.wave.specs.Tables.{own_field}
@@ -20,8 +19,8 @@ ahead s (e ∷ es) = pick (eqb (own_field s e) ONES) [] (e ∷ ahead s es)
 -- refusal 7 where there is such a chunk, else none
 unfoldable pub stop : List ℕ → List Entry → Verdict
 unfolding pick
-stop s [] = Accepted
-stop s (e ∷ es) = pick (eqb (own_field s e) ONES) (Refused UnknownSize) (stop s es)
+stop s [] = Ok tt
+stop s (e ∷ es) = pick (eqb (own_field s e) ONES) (Err UnknownSize) (stop s es)
 
 -- "The 32-bit walk only ever says own field": of every list of bytes
 unfoldable pub SaysOwn : List ℕ → Type 0
@@ -36,9 +35,9 @@ pub record FirstHalf (s : List ℕ) (a : Scan) : Type 0 where
   -- "It shows exactly the chunks ahead of the first chunk whose own size field is all ones, each as the scan's table shows
   -- it", its source too, "and in that order, then stops there with refusal 7."
   pub stops : (xs : List Entry) (e : Entry) (ys : List Entry) → a.rows ≡ xs ++ e ∷ ys → Sized s xs → own_field s e ≡ ONES
-      → walk32 s ≡ record { rows = xs; end = Refused UnknownSize }
+      → walk32 s ≡ record { rows = xs; end = Err UnknownSize }
   -- "With no such chunk it shows the whole table and ends with no refusal."
-  pub whole : Sized s a.rows → walk32 s ≡ record { rows = a.rows; end = Accepted }
+  pub whole : Sized s a.rows → walk32 s ≡ record { rows = a.rows; end = Ok tt }
   -- both at once, as one equation
   pub walk : walk32 s ≡ record { rows = ahead s a.rows; end = stop s a.rows }
 
@@ -46,6 +45,6 @@ pub record FirstHalf (s : List ℕ) (a : Scan) : Type 0 where
 -- 02), also of a file that the scan refuses
 pub record ListHalf (s : List ℕ) (rows : List Entry) : Type 0 where
   pub stops : (xs : List Entry) (e : Entry) (ys : List Entry) → rows ≡ xs ++ e ∷ ys → Sized s xs → own_field s e ≡ ONES
-      → walk32 s ≡ record { rows = xs; end = Refused UnknownSize }
-  pub whole : Sized s rows → walk32 s ≡ record { rows = rows; end = Accepted }
+      → walk32 s ≡ record { rows = xs; end = Err UnknownSize }
+  pub whole : Sized s rows → walk32 s ≡ record { rows = rows; end = Ok tt }
   pub walk : walk32 s ≡ record { rows = ahead s rows; end = stop s rows }

@@ -7,7 +7,7 @@ use Rattle.le.specs.Number.{Bytes, bytes}
 use Rattle.chunk.specs.declared.Entry.{Entry}
 use Rattle.chunk.specs.declared.Source.{Source}
 use Rattle.chunk.specs.declared.TrueSize.{TrueSize}
-use Rattle.chunk.specs.Refusals.{given}
+use Rattle.chunk.specs.Refusals.{Ok}
 use Rattle.chunk.specs.Names.{WAVE, DS64, FMT, DATA, FACT, BEXT, CHNA}
 use Rattle.chunk.specs.Fields.{ONES}
 use Rattle.chunk.specs.Tables.{count, find, LIMIT}
@@ -170,13 +170,13 @@ pub record GoodFile (s : List ℕ) (a : Scan) : Type 0 where
   pub chna : count CHNA a.rows ≤ 1
   pub fact : count FACT a.rows ≤ 1
   -- the format is the record in fmt's payload; "The data size is a whole number of blocks."
-  pub format : (c : Chunk) → Memᴰ c chunks → c.name ≡ FMT → format_in c.payload ≡ given a.format
+  pub format : (c : Chunk) → Memᴰ c chunks → c.name ≡ FMT → format_in c.payload ≡ Ok a.format
   pub blocks : (c : Chunk) → Memᴰ c chunks → c.name ≡ DATA → length c.payload % a.format.block ≡ 0
 
 -- The listing accepts exactly the files of such a shape, each with exactly its form, ds64 and table.
 unfoldable pub ListsExactly : Type 0
-ListsExactly = (s : List ℕ) → Bytes s → (l : Listing) → (listing s ≡ given l) ↔ GoodShape s l
+ListsExactly = (s : List ℕ) → Bytes s → (l : Listing) → (listing s ≡ Ok l) ↔ GoodShape s l
 
 -- The scan accepts exactly the good files, each with exactly its form, ds64, table and format.
 unfoldable pub AcceptsExactly : Type 0
-AcceptsExactly = (s : List ℕ) → Bytes s → (a : Scan) → (scan s ≡ given a) ↔ GoodFile s a
+AcceptsExactly = (s : List ℕ) → Bytes s → (a : Scan) → (scan s ≡ Ok a) ↔ GoodFile s a

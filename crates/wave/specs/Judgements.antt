@@ -3,19 +3,19 @@
 use Rattle.std.specs.Prelude.{ℕ, ◌+◌, ◌*◌, ◌≤◌, ◌<◌, ◌≡◌, ◌↔◌, ◌⊎◌, List, length, set, get_or}
 use Rattle.chunk.specs.declared.Refusal.{Refusal}
 use Rattle.chunk.specs.declared.Refusal.TheVariants.{BadFmt, RaggedAudio, StaleListing}
-use Rattle.chunk.specs.Refusals.{Answer, refused, given, check, and_then, verdict_of}
+use Rattle.chunk.specs.Refusals.{Answer, Err, Ok, check, and_then, verdict_of}
 use Rattle.chunk.specs.Tables.{begins, table_words, tabled, LIMIT}
 use Rattle.listing.specs.Listings.{Listing, listing}
 use Rattle.fmt.specs.declared.Format.{Format}
 use Rattle.wave.specs.Scans.{judged_in, scan}
-use Rattle.wave.specs.Code.{examined_as, end_of}
+use Rattle.wave.specs.Code.{examined_as}
 
 -- the listing of a file, if these words begin with its table: "24 .. for a listing that isn't a fresh listing of the given
 -- file, and also where the file has no listing"
 unfoldable pub fresh_in : List ℕ → Answer Listing → Answer Listing
 unfolding check
-fresh_in t (refused r) = refused StaleListing
-fresh_in t (given l) = check (begins (table_words l.rows) t) StaleListing (given l)
+fresh_in t (Err r) = Err StaleListing
+fresh_in t (Ok l) = check (begins (table_words l.rows) t) StaleListing (Ok l)
 
 -- "24, first in the judgement", then checks 11 and 12
 unfoldable pub judgement : (file words : List ℕ) → Answer Format
@@ -26,7 +26,7 @@ judgement s t = and_then (fresh_in t (listing s)) λ l. judged_in l.rows s
 -- of each row are the listing's, and no row is missing.
 pub record FreshListing (s t : List ℕ) : Type 0 where
   pub listed : Listing
-  pub is : listing s ≡ given listed
+  pub is : listing s ≡ Ok listed
   pub words : t ≡ tabled listed.rows t
 
 -- So of every fresh listing t of a file:
@@ -42,12 +42,12 @@ pub record FreshSays (s t : List ℕ) : Type 0 where
 -- What the judgement decides, of any bytes and any words:
 pub record Decides (s t : List ℕ) : Type 0 where
   -- 24 exactly where the words are no fresh listing of the file
-  pub stale : (judgement s t ≡ refused StaleListing) ↔ (FreshListing s t → ⊥)
+  pub stale : (judgement s t ≡ Err StaleListing) ↔ (FreshListing s t → ⊥)
   -- and else 11 and 12 alone
-  pub others : (r : Refusal) → judgement s t ≡ refused r → (r ≡ StaleListing) ⊎ (r ≡ BadFmt) ⊎ (r ≡ RaggedAudio)
+  pub others : (r : Refusal) → judgement s t ≡ Err r → (r ≡ StaleListing) ⊎ (r ≡ BadFmt) ⊎ (r ≡ RaggedAudio)
   -- a fresh listing is judged as the scan judges the file
   pub fresh : FreshListing s t → verdict_of (judgement s t) ≡ verdict_of (scan s)
   -- the inner judgement, for whoever has just listed the file, answers `examined_as s (scan s)`: the two agree
-  pub agrees : FreshListing s t → end_of (examined_as s (scan s)) ≡ verdict_of (judgement s t)
+  pub agrees : FreshListing s t → verdict_of (examined_as s (scan s)) ≡ verdict_of (judgement s t)
   -- what listing has stored is fresh, whatever stood in the words
-  pub listed : (l : Listing) → listing s ≡ given l → FreshListing s (tabled l.rows t)
+  pub listed : (l : Listing) → listing s ≡ Ok l → FreshListing s (tabled l.rows t)

@@ -4,8 +4,7 @@ use Rattle.std.specs.Prelude.{ℕ, ◌%◌, List, [], eqb}
 use Rattle.le.specs.Number.{field}
 use Rattle.chunk.specs.declared.Entry.{Entry}
 use Rattle.chunk.specs.declared.Refusal.TheVariants.{RaggedAudio}
-use Rattle.chunk.specs.declared.Verdict.TheVariants.{Refused}
-use Rattle.chunk.specs.Refusals.{Answer, refused, given, check, and_then}
+use Rattle.chunk.specs.Refusals.{Answer, Err, Ok, check, and_then}
 use Rattle.chunk.specs.Names.{FMT, DATA}
 use Rattle.chunk.specs.Tables.{find, LIMIT}
 use Rattle.chunk.specs.Walks.{Walked, walk, own_size}
@@ -24,7 +23,7 @@ payload e s = field e.size e.place s
 -- check 12: "The data size is a whole number of blocks"
 unfoldable pub whole_blocks : ℕ → Format → Answer Format
 unfolding check
-whole_blocks size f = check (eqb (size % f.block) 0) RaggedAudio (given f)
+whole_blocks size f = check (eqb (size % f.block) 0) RaggedAudio (Ok f)
 
 -- over the fmt payload and the data size
 unfoldable pub judged : List ℕ → ℕ → Answer Format
@@ -52,24 +51,24 @@ unfolding and_then
 scan s =
     and_then (listing s) λ l.
     and_then (judged (payload (find FMT l.rows) s) (find DATA l.rows).size) λ f.
-    given (record { head = l.head; rows = l.rows; format = f })
+    Ok (record { head = l.head; rows = l.rows; format = f })
 
 -- "A refused scan .. returns its number and an empty result": the rows of its table
 unfoldable pub rows_of : Answer Scan → List Entry
-rows_of (refused r) = []
-rows_of (given a) = a.rows
+rows_of (Err r) = []
+rows_of (Ok a) = a.rows
 
 -- and those of a listing's
 unfoldable pub listed_rows : Answer Listing → List Entry
-listed_rows (refused r) = []
-listed_rows (given l) = l.rows
+listed_rows (Err r) = []
+listed_rows (Ok l) = l.rows
 
 -- ---- the 32-bit walk
 
 -- the walk from where checks 1, 2 and 5 let it start, or their refusal with nothing shown
 unfoldable pub walk_from : Answer ℕ → List ℕ → Walked
-walk_from (refused r) s = record { rows = []; end = Refused r }
-walk_from (given at) s = walk own_size s LIMIT at
+walk_from (Err r) s = record { rows = []; end = Err r }
+walk_from (Ok at) s = walk own_size s LIMIT at
 
 unfoldable pub walk32 : List ℕ → Walked
 walk32 s = walk_from (open_for32 s) s

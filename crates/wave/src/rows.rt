@@ -1,66 +1,57 @@
 // The rows of a table, stored into lent words: the 32-bit walk's as they are met, the scan's once the file is accepted; and
 // those of a listed file, compared with words.
 ghost use Rattle.std.specs.Prelude.{◌≡◌, ◌+◌, ◌*◌, ◌≤◌, length, drop};
-ghost use Rattle.chunk.specs.Tables.{all_words, begins, tabled, table_words, LIMIT, WORDS};
-ghost use Rattle.chunk.specs.Walks.{own_size, walk};
+ghost use Rattle.chunk.specs.declared.Entry.{Entry};
+ghost use Rattle.chunk.specs.Tables.{all_words, begins, tabled, table_words, WORDS};
+ghost use Rattle.chunk.specs.Walks.{own_size};
 ghost use Rattle.chunk.specs.Code.{walk_after, full};
+ghost use Rattle.form.specs.Forms.{is_wide};
 ghost use Rattle.listing.specs.Listings.{headers};
-ghost use Rattle.wave.specs.Code.{WalkStored, Finishes, Fills, Rowed, WideRows, Compares, WideCompares, Ended, rows_from};
+ghost use Rattle.listing.specs.Code.{rule};
+ghost use Rattle.wave.specs.Code.{WalkStored, Finishes, Ended, EntryAt, rows_from};
 
-use chunk::{Refusal, Step, Table, TrueSize, Verdict};
+use chunk::{Entry, Refusal, Step, Table, TrueSize};
 use form::Head;
 
 // How the 32-bit walk ends at a step after which no header may come: what it found is stored, and the number of rows.
-fn finish(found: Step, used: usize, words: &mut [u64]) -> Verdict
+fn finish(found: Step, used: usize, words: &mut [u64]) -> Result<(), Refusal>
     requires { 5 + 4 * used ≤ length words.old }
     ensures { Finishes used (walk_after found full) words.old result words.new }
 {
-    let row = 1 + 4 * used;
-    match found {
-        Step::Chunk(e, _) => {
-            chunk::put_row(words, row, e);
-            words[0] = used as u64 + 1;
-            Verdict::Refused(Refusal::TooMany)
-        }
-        Step::Last(e) => {
-            chunk::put_row(words, row, e);
-            words[0] = used as u64 + 1;
-            Verdict::Accepted
-        }
-        Step::Cut(e) => {
-            chunk::put_row(words, row, e);
-            words[0] = used as u64 + 1;
-            Verdict::Refused(Refusal::CutHeader)
-        }
-        Step::Stop(r) => {
+    let (last, end) = match found {
+        Step::Chunk(e, _) => (e, Err(Refusal::TooMany)),
+        Step::Last(e) => (e, Ok(())),
+        Step::Cut(e) => (e, Err(Refusal::CutHeader)),
+        Step::Stop(refusal) => {
             words[0] = used as u64;
-            Verdict::Refused(r)
+            return Err(refusal);
         }
-    }
+    };
+    chunk::put_row(words, 1 + 4 * used, last);
+    words[0] = used as u64 + 1;
+    end
 }
 
 // The 32-bit walk from the header at byte 12, its chunks stored as rows.
-fn walk32(file: &[u8], words: &mut [u64]) -> Verdict
+fn walk32(file: &[u8], words: &mut [u64]) -> Result<(), Refusal>
     requires { (20 ≤ length file.now) × (WORDS ≤ length words.old) }
     ensures { WalkStored own_size file.now words.old result words.new }
 {
     let mut place: u64 = 20;
-    let mut used: usize = 0;
-    while used < Table::LIMIT {
+    for used in 0..Table::LIMIT {
         let found = chunk::steps::step32(file, place);
         let Step::Chunk(entry, next) = found else {
             return finish(found, used, words);
         };
         chunk::put_row(words, 1 + 4 * used, entry);
         place = next;
-        used += 1;
     }
-    words[0] = used as u64;
-    Verdict::Refused(Refusal::TooMany)
+    words[0] = Table::LIMIT as u64;
+    Err(Refusal::TooMany)
 }
 
 // The 32-bit walk past checks 1, 2 and 5.
-pub fn list32(file: &[u8], words: &mut [u64]) -> Verdict
+pub fn list32(file: &[u8], words: &mut [u64]) -> Result<(), Refusal>
     requires { (12 ≤ length file.now) × (WORDS ≤ length words.old) }
     ensures { WalkStored own_size file.now words.old result words.new }
 {
@@ -70,121 +61,102 @@ pub fn list32(file: &[u8], words: &mut [u64]) -> Verdict
     }
     words[0] = 0;
     if len == 12 {
-        return Verdict::Accepted;
+        return Ok(());
     }
-    Verdict::Refused(Refusal::CutHeader)
+    Err(Refusal::CutHeader)
 }
 
-// The rows of a file in which every field is the size.
-#[inline(always)]
-fn fill_own(file: &[u8], stop: usize, words: &mut [u64])
-    requires { Rowed own_size file.now stop words.old }
-    ensures { words.new ≡ rows_from words.old 1 (walk own_size file.now LIMIT 12).rows }
-{
-    let mut place: u64 = 20;
-    let mut row: usize = 1;
-    while row < stop {
-        let h = chunk::steps::header(file, place);
-        let size = TrueSize::own(h.field);
-        chunk::put_row(words, row, chunk::steps::entry(place, h.name, size));
-        place = chunk::steps::past(place, size.bytes);
-        row += 4;
-    }
+// A listed file, whose headers are read once more: nothing is tested, the listing has.
+#[derive(Clone, Copy)]
+pub struct Listed<'a> {
+    pub file: &'a [u8],
+    pub head: Head,
+    // The number of its chunks.
+    pub count: u64,
+    ghost ended: { Ended head file.now count },
 }
 
-// The rows of a 64-bit file.
-#[inline(always)]
-fn fill_wide(file: &[u8], head: Head, stop: usize, words: &mut [u64])
-    requires { WideRows head file.now stop words.old }
-    ensures { words.new ≡ rows_from words.old 1 (headers head file.now).rows }
-{
-    let mut place: u64 = 20;
-    let mut row: usize = 1;
-    while row < stop {
-        let h = chunk::steps::header(file, place);
-        let mut size = TrueSize::own(h.field);
-        if h.field == chunk::ONES {
-            size = truesize::known(file, head, h.name);
+impl Listed<'_> {
+    // The chunk at a place. In a file that isn't WIDE, so RIFF, every field is the size, and none is asked: the test is a
+    // constant, since it would cost 2 instructions a row.
+    #[inline(always)]
+    fn entry<const WIDE: bool>(&self, place: u64) -> Entry
+        requires wide { WIDE ≡ is_wide self.now.head.form }
+        requires stands { (e : Entry) × EntryAt (rule self.now.head self.now.file.now) self.now.file.now place e }
+        ensures { EntryAt (rule self.now.head self.now.file.now) self.now.file.now place result }
+    {
+        let header = chunk::steps::header(self.file, place);
+        let size = if WIDE && header.field == chunk::ONES {
+            truesize::known(self.file, self.head, header.name)
+        } else {
+            TrueSize::own(header.field)
+        };
+        chunk::steps::entry(place, header.name, size)
+    }
+
+    // Stores the rows.
+    // Kept: three loops, as one tests, one stores and one compares (docs/DECISIONS.md, "One walk over a size rule").
+    #[inline(always)]
+    fn put_rows<const WIDE: bool>(&self, words: &mut [u64])
+        requires wide { WIDE ≡ is_wide self.now.head.form }
+        requires room { 1 + 4 * self.now.count ≤ length words.old }
+        ensures { words.new ≡ rows_from words.old 1 (headers self.now.head self.now.file.now).rows }
+    {
+        let mut place: u64 = 20;
+        for i in 0..self.count as usize {
+            let entry = self.entry::<WIDE>(place);
+            chunk::put_row(words, 1 + 4 * i, entry);
+            place = chunk::steps::past(place, entry.size);
         }
-        chunk::put_row(words, row, chunk::steps::entry(place, h.name, size));
-        place = chunk::steps::past(place, size.bytes);
-        row += 4;
     }
-}
 
-// The table of an accepted file. Its headers are read once more, and nothing is tested: the scan has. The scan and the
-// listing each have it inlined, with its loops: as a call it costs the scan of a small file one instruction more in twenty.
-#[inline(always)]
-pub fn fill(file: &[u8], head: Head, count: u64, words: &mut [u64])
-    requires { Fills head file.now count words.old }
-    ensures { words.new ≡ tabled (headers head file.now).rows words.old }
-{
-    let stop = 1 + 4 * count as usize;
-    let form = head.form;
-    if form::is_wide(form) {
-        fill_wide(file, head, stop, words);
-    } else {
-        fill_own(file, stop, words);
+    // Stores its table. The scan and the listing each have it inlined, with its loops: as a call it costs the scan of a small
+    // file one instruction more in twenty.
+    #[inline(always)]
+    pub fn fill(&self, words: &mut [u64])
+        requires { 1 + 4 * self.now.count ≤ length words.old }
+        ensures { words.new ≡ tabled (headers self.now.head self.now.file.now).rows words.old }
+    {
+        if self.head.form.is_wide() {
+            self.put_rows::<true>(words);
+        } else {
+            self.put_rows::<false>(words);
+        }
+        words[0] = self.count;
     }
-    words[0] = count;
-}
 
-// Whether words hold, past the first, the rows of a file in which every field is the size.
-fn are_own(file: &[u8], stop: usize, table: &[u64]) -> bool
-    requires { Compares own_size file.now stop table.now }
-    ensures { result ≡ begins (all_words (walk own_size file.now LIMIT 12).rows) (drop 1 table.now) }
-{
-    let mut place: u64 = 20;
-    let mut row: usize = 1;
-    while row < stop {
-        let h = chunk::steps::header(file, place);
-        let size = TrueSize::own(h.field);
-        if !chunk::is_row(table, row, chunk::steps::entry(place, h.name, size)) {
+    // Whether words hold, past the first, the rows.
+    fn are_rows<const WIDE: bool>(&self, table: &[u64]) -> bool
+        requires wide { WIDE ≡ is_wide self.now.head.form }
+        requires room { 1 + 4 * self.now.count ≤ length table.now }
+        ensures { result ≡ begins (all_words (headers self.now.head self.now.file.now).rows) (drop 1 table.now) }
+    {
+        let mut place: u64 = 20;
+        for i in 0..self.count as usize {
+            let entry = self.entry::<WIDE>(place);
+            if !chunk::is_row(table, 1 + 4 * i, entry) {
+                return false;
+            }
+            place = chunk::steps::past(place, entry.size);
+        }
+        true
+    }
+
+    // Whether words are its table: the number of its rows, and each row. Words past the last are not looked at.
+    pub fn is(&self, table: &[u64]) -> bool
+        ensures { result ≡ begins (table_words (headers self.now.head self.now.file.now).rows) table.now }
+    {
+        let stop = 1 + 4 * self.count as usize;
+        if table.len() < stop {
             return false;
         }
-        place = chunk::steps::past(place, size.bytes);
-        row += 4;
-    }
-    true
-}
-
-// The same of a 64-bit file.
-fn are_wide(file: &[u8], head: Head, stop: usize, table: &[u64]) -> bool
-    requires { WideCompares head file.now stop table.now }
-    ensures { result ≡ begins (all_words (headers head file.now).rows) (drop 1 table.now) }
-{
-    let mut place: u64 = 20;
-    let mut row: usize = 1;
-    while row < stop {
-        let h = chunk::steps::header(file, place);
-        let mut size = TrueSize::own(h.field);
-        if h.field == chunk::ONES {
-            size = truesize::known(file, head, h.name);
-        }
-        if !chunk::is_row(table, row, chunk::steps::entry(place, h.name, size)) {
+        if table[0] != self.count {
             return false;
         }
-        place = chunk::steps::past(place, size.bytes);
-        row += 4;
+        if self.head.form.is_wide() {
+            self.are_rows::<true>(table)
+        } else {
+            self.are_rows::<false>(table)
+        }
     }
-    true
-}
-
-// The table of a listed file, compared: the number of its rows, and each row. Words past the last are not looked at.
-pub fn are(file: &[u8], head: Head, count: u64, table: &[u64]) -> bool
-    requires { Ended head file.now count }
-    ensures { result ≡ begins (table_words (headers head file.now).rows) table.now }
-{
-    let stop = 1 + 4 * count as usize;
-    if table.len() < stop {
-        return false;
-    }
-    if table[0] != count {
-        return false;
-    }
-    let form = head.form;
-    if form::is_wide(form) {
-        return are_wide(file, head, stop, table);
-    }
-    are_own(file, stop, table)
 }

@@ -1,30 +1,31 @@
 -- `wave::judge` meets its contract: the file is surveyed, its table compared, and then the judgement given.
+use Rattle.std.proofs.Common.{rules, ◌≡◌, Err}
 use mathlib.Core.Path.{sym, ◌∙◌}
+use Rattle.wave.proofs.Ends.{fresh-ended}
 use Rattle.wave.proofs.Freshness.{judge-none, judge-stale, judge-refused, judge-accepted}
-use Rattle.wave.proofs.Surveys.{surveyed-none, surveyed-fresh, surveyed-ended, surveyed-compared, surveyed-bad, surveyed-good}
+use Rattle.wave.proofs.Surveys.{surveyed-none, surveyed-tells, fresh-bad, fresh-good}
 use Rattle.wave.proofs.judge.Goals as goal
 
-pub are-requires : goal.are-requires
-are-requires c =
-    surveyed-ended _ _ _ (sym c.survey.ensures ∙ c.in-Listed.is)
+pub invariant_of-listed : goal.invariant_of-listed
+invariant_of-listed c =
+    record { ended = fresh-ended _ _ (surveyed-tells _ _ (sym c.in-Ok.ensures)).fresh }
 
-pub returns-then-not-are : goal.returns-then-not-are
-returns-then-not-are c =
-    let e = sym c.survey.ensures ∙ c.in-Listed.is in
-    judge-stale _ _ _ (surveyed-fresh _ _ _ e) _ (surveyed-compared _ _ _ e _ _ c.are.ensures) c.if-not-are.true
+pub returns-in-Err : goal.returns-in-Err
+returns-in-Err c =
+    judge-none _ _ _ (surveyed-none _ _ (sym c.in-Err.ensures))
 
-pub returns-in-Refused : goal.returns-in-Refused
-returns-in-Refused c =
-    judge-none _ _ _ (surveyed-none _ _ (sym c.survey.ensures ∙ c.in-Refused.is))
+pub returns-then-not-is : goal.returns-then-not-is
+returns-then-not-is c =
+    let t = surveyed-tells _ _ (sym c.in-Ok.ensures) in
+    judge-stale _ _ _ t.fresh _ c.is.ensures c.if-not-is.true
 
-pub returns-in-Bad : goal.returns-in-Bad
-returns-in-Bad c =
-    let e = sym c.survey.ensures ∙ c.in-Listed.is in
-    judge-refused _ _ _ (surveyed-fresh _ _ _ e) _ (surveyed-compared _ _ _ e _ _ c.are.ensures) c.if-not-are.false _
-    (surveyed-bad _ _ _ e _ c.in-Bad.is)
+pub returns-in_err-surveyed-in-Ok : goal.returns-in_err-surveyed-in-Ok
+returns-in_err-surveyed-in-Ok c =
+    let h : c.from_residual.result ≡ Err c.in_err-surveyed-in-Ok.field-0.0 = search rules in
+    let t = surveyed-tells _ _ (sym c.in-Ok.ensures) in
+    h ∙ judge-refused _ _ _ t.fresh _ c.is.ensures c.if-not-is.false _ (fresh-bad _ _ t.fresh _ (sym t.said ∙ c.in_err-surveyed-in-Ok.was))
 
-pub returns-in-Good : goal.returns-in-Good
-returns-in-Good c =
-    let e = sym c.survey.ensures ∙ c.in-Listed.is in
-    judge-accepted _ _ _ (surveyed-fresh _ _ _ e) _ (surveyed-compared _ _ _ e _ _ c.are.ensures) c.if-not-are.false _
-    (surveyed-good _ _ _ e _ c.in-Good.is)
+pub returns-in_ok-surveyed-in-Ok : goal.returns-in_ok-surveyed-in-Ok
+returns-in_ok-surveyed-in-Ok c =
+    let t = surveyed-tells _ _ (sym c.in-Ok.ensures) in
+    judge-accepted _ _ _ t.fresh _ c.is.ensures c.if-not-is.false _ (fresh-good _ _ t.fresh _ (sym t.said ∙ c.in_ok-surveyed-in-Ok.was))

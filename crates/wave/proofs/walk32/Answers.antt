@@ -1,7 +1,10 @@
 -- `wave::walk32` meets its contract: the walk into the words of the table of no chunks.
-use Rattle.wave.proofs.Ends.{walk-value}
+use Rattle.std.proofs.Common.{rules}
+use Rattle.wave.specs.Scans.{walk32}
+use Rattle.wave.specs.Words.{walk_table}
+use Rattle.wave.proofs.Ends.{done-value}
 use Rattle.wave.proofs.walk32.Goals as goal
 
 pub returns : goal.returns
-returns c =
-    walk-value _ _ _ _ c.empty-empty.ensures c.walk32_into-verdict.ensures
+unfolding walk_table
+returns c = done-value ((walk32 c.args.file.now).end) ((walk32 c.args.file.now).rows) _ (search rules)

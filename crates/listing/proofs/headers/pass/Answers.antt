@@ -3,10 +3,10 @@
 use mathlib.Core.Path.{◌≡◌, refl, sym, ap, ◌∙◌, subst}
 use Prim.Native.Nat.{ℕ, ◌+◌, ◌-◌, ◌%◌, ◌≤◌}
 use native.Mathlib.Omega.{arith}
+use Rattle.std.proofs.lemmas.Grind.{common_steps}
 use lib.ListN.{get_or}
 use Rattle.listing.specs.Code.{next_of, passed_from, Nears}
 use Rattle.listing.proofs.Passing.{Passes, pass-letter, pass-end, pass-true, next-due, passed-stay, passed_on, passed_none}
-use Rattle.listing.proofs.headers.pass.Goals.{else-letter-ge98-via-then-letter-ge98+else-letter-le102, else-letter-ge98-via-else-letter-ge98}
 use Rattle.listing.proofs.headers.pass.Goals as goal
 
 pub loop-room-init : goal.loop-room-init
@@ -21,33 +21,32 @@ pub bounds-file-i : goal.bounds-file-i
 bounds-file-i c =
     omega (arith, c.loop-room.invariant.0.due.start, c.loop-room.invariant.0.due.whole)
 
-pub returns-then-letter-le102 : goal.returns-then-letter-le102
-returns-then-letter-le102 c =
-    sym (passed-stay _ _ _ _ (pass-letter _ _ _ (omega (arith, c.if-letter-ge98.true)) (omega (arith, c.if-letter-le102.true))))
+pub returns-then-contains : goal.returns-then-contains
+returns-then-contains c =
+    let lo : 98 ≤ get_or c.args.file.now (c.loop-room.place - 8) 0 = grind (arith, common_steps) in
+    let hi : get_or c.args.file.now (c.loop-room.place - 8) 0 ≤ 102 = grind (arith, common_steps) in
+    sym (passed-stay _ _ _ _ (pass-letter _ _ _ lo hi))
     ∙ c.loop-room.invariant.1
 
 pub overflow_sub-i : goal.overflow_sub-i
 overflow_sub-i c =
     omega (arith, c.loop-room.invariant.0.due.start)
 
-pub read4-requires : goal.read4-requires
-read4-requires c =
+pub read-requires-clause-inside : goal.read-requires-clause-inside
+read-requires-clause-inside c =
     omega (arith, c.loop-room.invariant.0.due.start, c.loop-room.invariant.0.due.whole)
 
 pub past-next-requires : goal.past-next-requires
 past-next-requires c =
     let d = c.loop-room.invariant.0.due in
-    (d.even, omega (arith, d.whole, c.read4.ensures.below))
+    (d.even, omega (arith, d.whole, c.read.ensures.below))
 
 pub returns-then-near-next : goal.returns-then-near-next
 unfolding next_of
 returns-then-near-next c =
     let letter : 98 ≤ get_or c.args.file.now (c.loop-room.place - 8) 0 → get_or c.args.file.now (c.loop-room.place - 8) 0 ≤ 102 → ⊥ = λ h k.
-    elim c.else-letter-ge98.branch [
-      | else-letter-ge98-via-then-letter-ge98+else-letter-le102 w ↦ omega (arith, w.if-letter-le102.false, k)
-      | else-letter-ge98-via-else-letter-ge98 w ↦ omega (arith, w.if-letter-ge98.false, h)
-    ] in
-    let next : c.past-next.result ≡ next_of c.loop-room.place c.args.file.now = c.past-next.ensures ∙ ap (λ (n : ℕ). c.loop-room.place + n + n % 2 + 8) c.read4.ensures.is in
+    grind (arith, common_steps) in
+    let next : c.past-next.result ≡ next_of c.loop-room.place c.args.file.now = c.past-next.ensures ∙ ap (λ (n : ℕ). c.loop-room.place + n + n % 2 + 8) c.read.ensures.is in
     sym (passed-stay _ _ _ _ (pass-end _ _ _ letter (omega (arith, next, c.if-near-next.true))))
     ∙ c.loop-room.invariant.1
 
@@ -63,11 +62,8 @@ pub loop-room-preserved : goal.loop-room-preserved
 unfolding next_of
 loop-room-preserved c =
     let letter : 98 ≤ get_or c.args.file.now (c.loop-room.place - 8) 0 → get_or c.args.file.now (c.loop-room.place - 8) 0 ≤ 102 → ⊥ = λ h k.
-    elim c.else-letter-ge98.branch [
-      | else-letter-ge98-via-then-letter-ge98+else-letter-le102 w ↦ omega (arith, w.if-letter-le102.false, k)
-      | else-letter-ge98-via-else-letter-ge98 w ↦ omega (arith, w.if-letter-ge98.false, h)
-    ] in
-    let next : c.past-next.result ≡ next_of c.loop-room.place c.args.file.now = c.past-next.ensures ∙ ap (λ (n : ℕ). c.loop-room.place + n + n % 2 + 8) c.read4.ensures.is in
+    grind (arith, common_steps) in
+    let next : c.past-next.result ≡ next_of c.loop-room.place c.args.file.now = c.past-next.ensures ∙ ap (λ (n : ℕ). c.loop-room.place + n + n % 2 + 8) c.read.ensures.is in
     let i = c.loop-room.invariant in
     let near = c.args.near in
     let p : Passes near c.loop-room.place c.args.file.now = record { letter = letter; inside = omega (arith, next, c.if-near-next.false) } in (

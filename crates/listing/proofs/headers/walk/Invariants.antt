@@ -1,9 +1,10 @@
-use Prim.Native.Nat.{◌≤◌}
+-- What the walk from the start tallies is what the walk from here adds to the tally so far; fewer headers may come each time.
+use Rattle.chunk.specs.Code.{header_of}
 use Rattle.listing.proofs.Passing.{Going}
 use Rattle.listing.proofs.headers.walk.Given as goal
 
-abbrev pub invariant-loop-entry : goal.invariant-loop-entry
-invariant-loop-entry l = Going l.head l.file l.near l.first l.initial.place l.initial.room l.place l.room l.tally × (1 ≤ l.room)
+abbrev pub invariant-loop-ahead : goal.invariant-loop-ahead
+invariant-loop-ahead l = Going l.start.head l.file l.near (header_of l.start.place l.file) l.start.place l.start.room l.ahead.place l.ahead.room l.tally
 
-abbrev pub decreases-loop-entry : goal.decreases-loop-entry
-decreases-loop-entry l = l.room
+abbrev pub decreases-loop-ahead : goal.decreases-loop-ahead
+decreases-loop-ahead l = l.ahead.room
