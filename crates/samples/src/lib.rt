@@ -2,54 +2,29 @@
 #![tactic(auto)]
 
 ghost use Rattle.std.specs.Prelude.{◌≡◌, ◌+◌, ◌≤◌, length};
-ghost use Rattle.samples.specs.Counts.{samples_of};
-ghost use Rattle.samples.specs.Code.{count_at};
+ghost use Rattle.le.specs.Number.{number};
+ghost use Rattle.samples.specs.Counts.{fact_count, samples_of};
 
 use chunk::Refusal;
 use form::{Form, Head};
-use listing::Fact;
-use wave::judgement::Examined;
-
-// What the question for the sample count is answered.
-#[derive(Clone, Copy)]
-pub enum Samples {
-    // The number that fact, or RF64's ds64, gives.
-    Count(u64),
-    // The file has no fact.
-    None,
-    // The scan's refusal.
-    Refused(Refusal),
-}
 
 // The sample count of a file whose fact payload starts at a place.
-fn fact_count(file: &[u8], head: Head, place: u64) -> Samples
+#[tactic(auto, using(std::proofs::lemmas::Bool::Decides::nat_tests), unfolding(crate::specs::Counts::fact_count))]
+fn fact_count(file: &[u8], head: Head, place: u64) -> u64
     requires { place + 4 ≤ length file.now }
-    ensures { result ≡ count_at head place file.now }
+    ensures { result ≡ fact_count head.form head.ds64.third (number 4 place file.now) }
 {
-    let own = le::read4(file, place as usize);
-    if own != chunk::ONES {
-        return Samples::Count(own);
+    let own = le::read::<4>(file, place as usize);
+    if own == chunk::ONES && head.form == Form::Rf64 {
+        return head.ds64.third;
     }
-    let form = head.form;
-    match form {
-        Form::Rf64 => Samples::Count(head.ds64.third),
-        Form::Riff => Samples::Count(own),
-        Form::Bw64 => Samples::Count(own),
-    }
+    own
 }
 
-// The sample count of a file.
-pub fn sample_count(file: &[u8]) -> Samples
+// The sample count of a file, or None: it has no fact. The refusals are the scan's.
+pub fn sample_count(file: &[u8]) -> Result<Option<u64>, Refusal>
     ensures { result ≡ samples_of file.now }
 {
-    match wave::judgement::examine(file) {
-        Examined::Refused(r) => Samples::Refused(r),
-        Examined::Accepted(a) => {
-            let fact = a.fact;
-            match fact {
-                Fact::At(place) => fact_count(file, a.head, place),
-                Fact::None => Samples::None,
-            }
-        }
-    }
+    let a = wave::judgement::examine(file)?;
+    Ok(a.fact.map(|place| fact_count(file, a.head, place)))
 }

@@ -7,7 +7,7 @@ use Prim.Native.Nat.{ℕ}
 use Rattle.le.specs.Number.{Bytes}
 use Rattle.chunk.specs.declared.Entry.{Entry}
 use Rattle.chunk.specs.declared.TrueSize.{TrueSize}
-use Rattle.chunk.specs.Refusals.{given}
+use Rattle.chunk.specs.Refusals.{Ok}
 use Rattle.chunk.proofs.Laid.{laid-lies}
 use Rattle.truesize.proofs.Sizes.{own_is, riff-own}
 use Rattle.form.specs.declared.Form.{Form}
@@ -27,7 +27,7 @@ use Rattle.upgrade.proofs.Upgraded.{take-upgraded}
 
 -- a take is a table whose first chunk is the reserve
 upgraded-take : (t : Target) (s : List ℕ) (h : Head) (rows : List Entry) (f : Format) → Bytes s
-    → scan s ≡ given (record { head = h; rows = rows; format = f }) → h.form ≡ Riff → Reserved rows
+    → scan s ≡ Ok (record { head = h; rows = rows; format = f }) → h.form ≡ Riff → Reserved rows
     → Upgraded t s (record { head = h; rows = rows; format = f })
     (patched (patches t (record { head = h; rows = rows; format = f }) s) s)
 unfolding Reserved
@@ -42,7 +42,7 @@ unfolding is_wide
 riff-narrow f e = rw e
 
 -- Demand 3, second half.
-pub second-half : (t : Target) (s : List ℕ) (a : Scan) → Bytes s → scan s ≡ given a → a.head.form ≡ Riff → SecondHalf t s a
+pub second-half : (t : Target) (s : List ℕ) (a : Scan) → Bytes s → scan s ≡ Ok a → a.head.form ≡ Riff → SecondHalf t s a
 second-half t s a bytes e riff =
     let w = riff-narrow a.head.form riff in
     record {

@@ -3,11 +3,8 @@
 use mathlib.Core.Path.{◌≡◌, refl, sym, ◌∙◌, ap, subst}
 use mathlib.Core.List.{List}
 use Prim.Native.Nat.{ℕ}
-use native.Mathlib.Omega.{arith}
 use Rattle.le.specs.Number.{Bytes}
-use Rattle.chunk.specs.declared.Verdict.{Verdict}
-use Rattle.chunk.specs.declared.Verdict.TheVariants.{Accepted}
-use Rattle.chunk.specs.Refusals.{Answer, refused, given, verdict_of}
+use Rattle.chunk.specs.Refusals.{Answer, Verdict, Err, Ok, verdict_of}
 use Rattle.chunk.specs.Tables.{table_of}
 use Rattle.chunk.specs.Walks.{Walked}
 use Rattle.wave.specs.Scans.{Scan, scan, rows_of}
@@ -20,12 +17,12 @@ use Rattle.upgrade.specs.Words.{file_after, UpgradeDone}
 use Rattle.upgrade.specs.ForTheCode.{Walks, KeepsDemand3, Demand3ForTheCode}
 use Rattle.upgrade.proofs.Demand3.{second-half}
 
-accepts : {A : Type 0} (x : Answer A) → verdict_of x ≡ Accepted → (a : A) × (x ≡ given a)
+accepts : {A : Type 0} (x : Answer A) → verdict_of x ≡ Ok tt → (a : A) × (x ≡ Ok a)
 unfolding verdict_of
-accepts (refused r) e = absurd (let z : ◌≡◌ {A = ℕ} 0 1 = cc in omega arith)
-accepts (given a) e = (a, refl)
+accepts (Err r) e = cc
+accepts (Ok a) e = (a, refl)
 
-walks : (s : List ℕ) → (scan_table s).verdict ≡ Accepted → Walks s
+walks : (s : List ℕ) → (scan_table s).verdict ≡ Ok tt → Walks s
 unfolding scan_table walk_table rows_of
 walks s e =
     let a = accepts (scan s) e in
@@ -40,7 +37,7 @@ pub keeps : (t : Target) (s : List ℕ) (r : Verdict) (u : List ℕ) → Bytes s
 unfolding verdict_of file_after
 keeps t s r u b d a e f =
     let h = second-half t s a b e f in
-    let same : (v : List ℕ) → upgraded t s ≡ given v → u ≡ v = λ v q. d.bytes ∙ ap (file_after s) q in
+    let same : (v : List ℕ) → upgraded t s ≡ Ok v → u ≡ v = λ v q. d.bytes ∙ ap (file_after s) q in
     record {
       succeeds = (
         (λ q. let g = accepts (upgraded t s) (sym d.verdict ∙ q) in h.succeeds.0 g),

@@ -18,7 +18,7 @@ use Rattle.chunk.specs.declared.Entry.{Entry}
 use Rattle.chunk.specs.declared.TrueSize.{TrueSize}
 use Rattle.chunk.specs.Names.{DS64, JUNK, FMT, FACT, DATA}
 use Rattle.chunk.specs.Fields.{ONES}
-use Rattle.chunk.specs.Refusals.{given}
+use Rattle.chunk.specs.Refusals.{Ok}
 use Rattle.chunk.specs.Tables.{count, find}
 use Rattle.chunk.specs.Walks.{Rule, field_size, past}
 use Rattle.chunk.proofs.Checks.{picked}
@@ -220,7 +220,7 @@ module _ (s : List ℕ) (h : Head) (j : Entry) (rest : List Entry) (k : Take s h
   pub form-whole : (form_size h (number 4 4 s) ≡ number 4 4 s) × (8 + number 4 4 s ≡ length s)
   form-whole =
       let o = k.listed.opened in
-      let n = (riff-head s h (subst (λ (x : Form). head_as x s ≡ given h) k.riff o.head)).0 in
+      let n = (riff-head s h (subst (λ (x : Form). head_as x s ≡ Ok h) k.riff o.head)).0 in
       let p = form-own h (number 4 4 s) n in
       (p, ap (λ (x : ℕ). 8 + x) (sym p) ∙ o.whole)
 

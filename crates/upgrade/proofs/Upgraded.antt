@@ -12,15 +12,15 @@ use native.Mathlib.Omega.{arith}
 use lib.ListN.{length, length-map}
 use lib.Dec.{eqb, lit≤}
 use borrow.Author.Tests.{eqb-true, eqb-false}
+use Rattle.std.specs.Prelude.{Some}
 use Rattle.le.specs.Number.{number}
 use Rattle.chunk.specs.declared.Entry.{Entry}
 use Rattle.chunk.specs.declared.Source.{Source}
 use Rattle.chunk.specs.declared.TrueSize.{TrueSize}
 use Rattle.chunk.specs.declared.Refusal.TheVariants.{UnknownSize}
-use Rattle.chunk.specs.declared.Verdict.TheVariants.{Refused}
 use Rattle.chunk.specs.Names.{DS64, JUNK, FMT, FACT, DATA}
 use Rattle.chunk.specs.Fields.{ONES}
-use Rattle.chunk.specs.Refusals.{given}
+use Rattle.chunk.specs.Refusals.{Err, Ok}
 use Rattle.chunk.specs.Tables.{count, find}
 use Rattle.chunk.specs.Walks.{Rule, field_size, past}
 use Rattle.chunk.proofs.Laid.{row-size, Row, Laid, next, laid-lies, Shown, relaid-as}
@@ -34,7 +34,6 @@ use Rattle.truesize.proofs.Sizes.{true-own, true-ds64, true-data, own_is, riff-o
 use Rattle.fmt.specs.declared.Format.{Format}
 use Rattle.wave.specs.Scans.{Scan, scan, payload, judged, walk32}
 use Rattle.samples.specs.Counts.{fact_count, samples_in, samples_of}
-use Rattle.samples.specs.declared.Samples.TheVariants as samples
 use Rattle.wave.specs.Tables.{own_field}
 use Rattle.wave.specs.Demand3.{Sized}
 use Rattle.wave.proofs.Scanned.{scanned-scan}
@@ -64,9 +63,9 @@ module _ (t : Target) (s : List ℕ) (h : Head) (j : Entry) (rest : List Entry) 
   new = record { head = head_in t u; rows = new_rows j rest; format = f }
 
   abbrev Judged : Type 0
-  Judged = judged (payload (find FMT (j ∷ rest)) s) (find DATA (j ∷ rest)).size ≡ given f
+  Judged = judged (payload (find FMT (j ∷ rest)) s) (find DATA (j ∷ rest)).size ≡ Ok f
 
-  module _ (k : Take s h j rest) (scanned : scan s ≡ given old) (judge : Judged) where
+  module _ (k : Take s h j rest) (scanned : scan s ≡ Ok old) (judge : Judged) where
     long : length u ≡ length s
     long = patched-length (patches t old s) s
 
@@ -88,13 +87,13 @@ module _ (t : Target) (s : List ℕ) (h : Head) (j : Entry) (rest : List Entry) 
             let p = past-junk s h j rest k DATA (λ r. omega arith) in
             only DATA rest e (omega (arith, p.0, k.listed.chunked.one_data)) m q ∙ sym p.1
 
-        go : (b : Bool) → eqb e.name DATA ≡ b → rule (e.place - 8) e.name (number 4 (e.place - 4) u) ≡ given (row-size (marked e))
+        go : (b : Bool) → eqb e.name DATA ≡ b → rule (e.place - 8) e.name (number 4 (e.place - 4) u) ≡ Ok (row-size (marked e))
         go true q =
             let name = eqb-true e.name DATA q in
             let own = ap (λ (x : Entry). number 4 (x.place - 4) u) (found name) ∙ stored.data_field in
             ap₂ (rule (e.place - 8)) name own
             ∙ true-data (head_in t u) (entries_of (head_in t u) u) (e.place - 8) (target-wide t)
-            ∙ ap₂ (λ (n : ℕ) (x : Source). given (record { bytes = n; source = x }))
+            ∙ ap₂ (λ (n : ℕ) (x : Source). Ok (record { bytes = n; source = x }))
             (stored.data_size ∙ sym (ap (λ (x : Entry). x.size) (found name))) (sym (now-data e name))
         go false q =
             let name = eqb-false e.name DATA q in
@@ -103,8 +102,8 @@ module _ (t : Target) (s : List ℕ) (h : Head) (j : Entry) (rest : List Entry) 
             ap (rule (e.place - 8) e.name) own
             ∙ true-own (head_in t u) (entries_of (head_in t u) u) (e.place - 8) e.name (number 4 (e.place - 4) s)
             (not-ds64 s h j rest k e m) size.0
-            ∙ ap given (sym size.1)
-            ∙ ap (λ (x : Source). given (record { bytes = e.size; source = x })) (sym (now-other e name))
+            ∙ ap Ok (sym size.1)
+            ∙ ap (λ (x : Source). Ok (record { bytes = e.size; source = x })) (sym (now-other e name))
 
     junk-own : number 4 16 u ≡ number 4 16 s
     junk-own = number-beside t old s 4 16 (low-beside s h j rest k t f 4 16 (lit≤ tt) (lit≤ tt) (inr (lit≤ tt)))
@@ -128,8 +127,8 @@ module _ (t : Target) (s : List ℕ) (h : Head) (j : Entry) (rest : List Entry) 
           named = stored.name;
           sized = ap (rule 12 DS64) junk-own
               ∙ true-ds64 (head_in t u) (entries_of (head_in t u) u) (number 4 16 s) (target-wide t) junk-size.0
-              ∙ ap given (sym junk-own-row.1)
-              ∙ ap (λ (x : Source). given (record { bytes = j.size; source = x })) (sym (now-other (ds64_row j) (λ p. omega (arith, p))));
+              ∙ ap Ok (sym junk-own-row.1)
+              ∙ ap (λ (x : Source). Ok (record { bytes = j.size; source = x })) (sym (now-other (ds64_row j) (λ p. omega (arith, p))));
           ends = rw long r.ends;
         }
 
@@ -186,7 +185,7 @@ module _ (t : Target) (s : List ℕ) (h : Head) (j : Entry) (rest : List Entry) 
         ap (λ (e : Entry). payload e u) (same-find FMT (λ p. omega arith) (λ p. omega arith))
         ∙ kept (find FMT (j ∷ rest)) m.0 (λ p. omega (arith, m.1))
 
-    accepted : scan u ≡ given new
+    accepted : scan u ≡ Ok new
     accepted =
         scanned-scan u new
         (record {
@@ -238,7 +237,10 @@ module _ (t : Target) (s : List ℕ) (h : Head) (j : Entry) (rest : List Entry) 
     was = ap (λ (x : Form). fact_count x h.ds64.third factThen) k.riff ∙ fact-riff h.ds64.third factThen
 
     samples-same : samples_of u ≡ samples_of s
-    samples-same = samples-given u new accepted ∙ go (eqb (count FACT (j ∷ rest)) 0) refl ∙ sym (samples-given s old scanned)
+    samples-same =
+        samples-given u new accepted
+        ∙ ap Ok (go (eqb (count FACT (j ∷ rest)) 0) refl)
+        ∙ sym (samples-given s old scanned)
       where
         go : (b : Bool) → eqb (count FACT (j ∷ rest)) 0 ≡ b → samples_in new u ≡ samples_in old s
         go true e =
@@ -247,7 +249,7 @@ module _ (t : Target) (s : List ℕ) (h : Head) (j : Entry) (rest : List Entry) 
         go false e =
             let n = eqb-false (count FACT (j ∷ rest)) 0 e in
             samples-fact new u (λ z. n (sym same_count ∙ z))
-            ∙ ap samples.Count (count_same n ∙ sym was)
+            ∙ ap Some (count_same n ∙ sym was)
             ∙ sym (samples-fact old s n)
 
     -- ---- the 32-bit walk
@@ -272,7 +274,7 @@ module _ (t : Target) (s : List ℕ) (h : Head) (j : Entry) (rest : List Entry) 
         let x = Memᴰ.of_map marked (ds64_row j ∷ rest) m in
         sized x.0 x.1 (λ p. n (sym (ap (λ (y : Entry). y.name) x.2) ∙ p)) (ap (λ (y : Entry). number 4 (y.place - 4) u) x.2 ∙ o)
 
-    stops : walk32 u ≡ record { rows = ahead_of DATA new.rows; end = Refused UnknownSize }
+    stops : walk32 u ≡ record { rows = ahead_of DATA new.rows; end = Err UnknownSize }
     unfolding Sized own_field
     stops =
         let c = new-chunked j rest k.junk k.listed.chunked in

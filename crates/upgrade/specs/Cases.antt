@@ -4,7 +4,7 @@ use Rattle.std.specs.Prelude.{◌≡◌, ℕ, List, [], ◌∷◌, ◌++◌, tak
 use Rattle.std.proofs.lemmas.List.Edits.{sets}
 use Rattle.le.specs.Number.{number}
 use Rattle.chunk.specs.declared.Entry.{Entry}
-use Rattle.chunk.specs.Refusals.{Answer, refused, given, refusal_number, verdict_number}
+use Rattle.chunk.specs.Refusals.{Answer, Err, Ok, refusal_number, number_of}
 use Rattle.chunk.specs.Names.{JUNK, FMT, DATA, DS64}
 use Rattle.chunk.specs.Sources.{source_number}
 use Rattle.chunk.specs.Walks.{Walked}
@@ -28,16 +28,16 @@ cells [] = []
 cells (e ∷ es) = e.name ∷ e.place ∷ e.size ∷ source_number e.source ∷ cells es
 
 unfoldable pub scanned : Answer Scan → List ℕ
-scanned (refused r) = refusal_number r ∷ []
-scanned (given a) = 0 ∷ cells a.rows
+scanned (Err r) = refusal_number r ∷ []
+scanned (Ok a) = 0 ∷ cells a.rows
 
 unfoldable pub walked : Walked → List ℕ
-walked w = verdict_number w.end ∷ cells w.rows
+walked w = number_of w.end ∷ cells w.rows
 
 -- the upgraded file handed on, or the upgrade's refusal
 unfoldable pub onto : Answer (List ℕ) → (List ℕ → List ℕ) → List ℕ
-onto (refused r) f = refusal_number r ∷ []
-onto (given t) f = f t
+onto (Err r) f = refusal_number r ∷ []
+onto (Ok t) f = f t
 
 unfoldable pub fine : List ℕ → List ℕ
 fine t = 0 ∷ []

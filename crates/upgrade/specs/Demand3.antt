@@ -9,8 +9,7 @@ use Rattle.chunk.specs.declared.Entry.{Entry}
 use Rattle.chunk.specs.declared.Source.{Source}
 use Rattle.chunk.specs.declared.Source.TheVariants.{Own, DataSize}
 use Rattle.chunk.specs.declared.Refusal.TheVariants.{UnknownSize, NoReserve}
-use Rattle.chunk.specs.declared.Verdict.TheVariants.{Refused}
-use Rattle.chunk.specs.Refusals.{refused, given}
+use Rattle.chunk.specs.Refusals.{Err, Ok}
 use Rattle.chunk.specs.Names.{DS64, JUNK, DATA, FACT}
 use Rattle.chunk.specs.Fields.{ONES}
 use Rattle.chunk.specs.Tables.{find}
@@ -113,7 +112,7 @@ pub record Upgraded (t : Target) (s : List ℕ) (a : Scan) (u : List ℕ) : Type
   -- "The scan accepts it, with the same names, places and sizes in the same order, except that the first name is now ds64";
   -- the source of data's size was its own field and is ds64's data size, and every other is as it was
   pub again : Scan
-  pub accepted : scan u ≡ given again
+  pub accepted : scan u ≡ Ok again
   pub rows : again.rows ≡ map marked (renamed a.rows)
   pub form : again.head.form ≡ target_form t
   pub format : again.format ≡ a.format
@@ -122,26 +121,26 @@ pub record Upgraded (t : Target) (s : List ℕ) (a : Scan) (u : List ℕ) : Type
   -- "and so is the sample count as document 01 defines it: the same number, or none both times"
   pub samples : samples_of u ≡ samples_of s
   -- "The 32-bit walk shows every chunk ahead of data and stops at data with 7."
-  pub walk : walk32 u ≡ record { rows = ahead_of DATA again.rows; end = Refused UnknownSize }
+  pub walk : walk32 u ≡ record { rows = ahead_of DATA again.rows; end = Err UnknownSize }
 
 -- Of a RIFF file that the scan accepts, and RF64 or BW64 as target:
 pub record SecondHalf (t : Target) (s : List ℕ) (a : Scan) : Type 0 where
   -- "Upgrading succeeds exactly when the first chunk is JUNK of at least 28 bytes"
-  pub succeeds : ((u : List ℕ) × (upgraded t s ≡ given u)) ↔ Reserved a.rows
+  pub succeeds : ((u : List ℕ) × (upgraded t s ≡ Ok u)) ↔ Reserved a.rows
   -- "otherwise it gives 19"
-  pub otherwise : (Reserved a.rows → ⊥) → upgraded t s ≡ refused NoReserve
+  pub otherwise : (Reserved a.rows → ⊥) → upgraded t s ≡ Err NoReserve
   -- before it, each size came from its chunk's own field
   pub before : (e : Entry) → Memᴰ e a.rows → e.source ≡ Own
   -- "After a success .."
-  pub after : (u : List ℕ) → upgraded t s ≡ given u → Upgraded t s a u
+  pub after : (u : List ℕ) → upgraded t s ≡ Ok u → Upgraded t s a u
 
 -- ---- demand 3, whole
 
 pub record Demand3 : Type 0 where
   -- "Take any file that the scan accepts .. and read it with the plain 32-bit walk"
-  pub first : (s : List ℕ) (a : Scan) → scan s ≡ given a → FirstHalf s a
+  pub first : (s : List ℕ) (a : Scan) → scan s ≡ Ok a → FirstHalf s a
   -- "The 32-bit walk only ever says own field" (document 02), of any bytes
   pub own : (s : List ℕ) → SaysOwn s
   -- "Now take any accepted RIFF file, and RF64 or BW64 as target."
-  pub second : (t : Target) (s : List ℕ) (a : Scan) → Bytes s → scan s ≡ given a → a.head.form ≡ form-variants.Riff
+  pub second : (t : Target) (s : List ℕ) (a : Scan) → Bytes s → scan s ≡ Ok a → a.head.form ≡ form-variants.Riff
       → SecondHalf t s a

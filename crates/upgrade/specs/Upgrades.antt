@@ -4,7 +4,7 @@ use Rattle.le.specs.Number.{number, stored}
 use Rattle.le.specs.Choice.{pick}
 use Rattle.chunk.specs.declared.Entry.{Entry}
 use Rattle.chunk.specs.declared.Refusal.TheVariants.{Already64, NoReserve}
-use Rattle.chunk.specs.Refusals.{Answer, given, check, and_then}
+use Rattle.chunk.specs.Refusals.{Answer, Ok, check, and_then}
 use Rattle.chunk.specs.Names.{RF64, BW64, DS64, JUNK, FACT, DATA}
 use Rattle.chunk.specs.Fields.{ONES}
 use Rattle.chunk.specs.Tables.{count, find}
@@ -76,4 +76,4 @@ upgraded t s =
     and_then (scan s) λ a.
     check (not (is_wide a.head.form)) Already64
     (check (reserved a.rows) NoReserve
-    (given (patched (patches t a s) s)))
+    (Ok (patched (patches t a s) s)))
