@@ -1,9 +1,10 @@
 -- Document 01, "Writing and upgrading": the file that is written of a form, a format record, the payloads of bext and chna,
 -- and audio; or 16 or 17.
-use Rattle.std.specs.Prelude.{ℕ, ◌+◌, ◌/◌, ◌%◌, Bool, true, false, ◌&&◌, ◌||◌, List, [], ◌∷◌, ◌++◌, length, eqb, leb}
+use Rattle.std.specs.Prelude.{ℕ, ◌+◌, ◌/◌, ◌%◌, Bool, ◌&&◌, ◌||◌, List, [], ◌∷◌, ◌++◌, length, eqb, leb}
+use Rattle.std.specs.Result.{is_ok}
 use Rattle.le.specs.Choice.{every}
 use Rattle.chunk.specs.declared.Refusal.TheVariants.{BadRecord, TooLarge}
-use Rattle.chunk.specs.Refusals.{Answer, refused, given, check}
+use Rattle.chunk.specs.Refusals.{Answer, Ok, check}
 use Rattle.chunk.specs.Names.{FMT, DATA, BEXT, CHNA}
 use Rattle.form.specs.declared.Form.{Form}
 use Rattle.form.specs.Forms.{is_wide, LEAST}
@@ -12,8 +13,6 @@ use Rattle.fmt.specs.Writing.{writable, format_bytes}
 use Rattle.bext.specs.Records.{bext_in}
 use Rattle.chna.specs.Records.{chna_in, pads_zeroed}
 use Rattle.file_parts.specs.Parts.{chunk_with, chunk_bytes, optional, own_field, opening_bytes}
-use Rattle.file.specs.declared.Judged.{Judged}
-use Rattle.file.specs.declared.Judged.TheVariants as judged
 
 -- ---- the file
 
@@ -33,10 +32,6 @@ file_bytes form f b c a =
 
 -- ---- what is refused
 
-unfoldable pub accepted : {A : Type 0} → Answer A → Bool
-accepted (refused r) = false
-accepted (given x) = true
-
 -- 16: "bad format record, bext, chna or ragged audio"; "a 16-byte format record"; chna by "the format record's" channels
 unfoldable pub input_good : Format → List ℕ → List ℕ → List ℕ → Bool
 unfolding every
@@ -44,8 +39,8 @@ input_good f b c a =
     every
     (writable f
     ∷ eqb f.size 16
-    ∷ (eqb (length b) 0 || accepted (bext_in b))
-    ∷ (eqb (length c) 0 || accepted (chna_in f.channels c))
+    ∷ (eqb (length b) 0 || is_ok (bext_in b))
+    ∷ (eqb (length c) 0 || is_ok (chna_in f.channels c))
     ∷ eqb (length a % f.block) 0
     ∷ [])
 
@@ -59,9 +54,4 @@ unfolding check
 file_out form f b c a =
     check (input_good f b c a) BadRecord
     (check (sizes_good form (form_size_for form f b c a) (length b)) TooLarge
-    (given (file_bytes form f b c a)))
-
--- the judge's answer: how long the file is, or its refusal
-unfoldable pub judged_as : Answer (List ℕ) → Judged
-judged_as (refused r) = judged.Refused r
-judged_as (given bs) = judged.Size (length bs)
+    (Ok (file_bytes form f b c a)))

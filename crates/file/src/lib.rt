@@ -4,75 +4,64 @@
 // An empty payload of bext or chna is left out.
 #![tactic(auto)]
 
-ghost use Rattle.std.specs.Prelude.{◌≡◌, ◌||◌, ◌^◌, ◌<◌, length, eqb, leb};
-ghost use Rattle.form.specs.Forms.{is_wide};
-ghost use Rattle.bext.specs.Records.{bext_in};
-ghost use Rattle.chna.specs.Records.{chna_in};
+ghost use Rattle.std.specs.Prelude.{◌≡◌, ◌^◌, ◌<◌};
+ghost use Rattle.chunk.specs.Writes.{written_of};
 ghost use Rattle.file_parts.specs.Parts.{chunk_size, optional_size};
-ghost use Rattle.file.specs.Files.{accepted, input_good, file_out, judged_as};
+ghost use Rattle.file.specs.Files.{file_out};
 ghost use Rattle.file.specs.Code.{file_size};
 
 use chunk::Refusal;
 use fmt::Format;
 use form::Form;
 
-// What the judge answers.
-#[derive(Clone, Copy)]
-pub enum Judged {
-    // How many bytes the file has.
-    Size(u64),
-    // 16: no file can be made of these. 17: a size does not fit its field.
-    Refused(Refusal),
-}
-
 // The largest size that a 32-bit field holds: all ones stands for none.
 const LARGEST: u64 = 0xffff_fffe;
 
-// Whether bext's payload is absent or keeps its rules.
-fn bext_good(bext: &[u8]) -> bool
-    ensures { result ≡ eqb (length bext.now) 0 || accepted (bext_in bext.now) }
-{
-    if bext.len() == 0 {
-        return true;
-    }
-    let reading = bext::read(bext);
-    match reading {
-        bext::Reading::Record(_) => true,
-        bext::Reading::Refused(_) => false,
-    }
+// What a file is written of: a format record, the payloads of bext and chna, each empty where the file is to have none, and
+// audio.
+#[derive(Clone, Copy, Debug, PartialEq, Eq)]
+pub struct Input<'a> {
+    pub format: Format,
+    pub bext: &'a [u8],
+    pub chna: &'a [u8],
+    pub audio: &'a [u8],
 }
 
-// Whether chna's payload is absent or keeps its rules, in a file of so many channels.
-fn chna_good(chna: &[u8], channels: u64) -> bool
-    ensures { result ≡ eqb (length chna.now) 0 || accepted (chna_in channels chna.now) }
-{
-    if chna.len() == 0 {
-        return true;
-    }
-    let reading = chna::read(chna, channels);
-    match reading {
-        chna::Reading::Record(_) => true,
-        chna::Reading::Refused(_) => false,
-    }
-}
+impl Input<'_> {
+    ghost use Rattle.std.specs.Prelude.{◌||◌, length, eqb};
+    ghost use Rattle.std.specs.Result.{is_ok};
+    ghost use Rattle.bext.specs.Records.{bext_in};
+    ghost use Rattle.chna.specs.Records.{chna_in};
+    ghost use Rattle.file.specs.Files.{input_good};
 
-// Whether a file can be made of these.
-fn input_good(format: Format, bext: &[u8], chna: &[u8], audio: &[u8]) -> bool
-    ensures { result ≡ input_good format bext.now chna.now audio.now }
-{
-    if !fmt::is_writable(format) {
-        return false;
+    // Whether bext's payload is absent or keeps its rules.
+    // Kept: beside chna_good, since a closure for the reader is as long as the line.
+    #[tactic(auto, using(crate::proofs::Inputs::bext_read))]
+    fn bext_good(self) -> bool
+        ensures { result ≡ eqb (length self.entry.bext.now) 0 || is_ok (bext_in self.entry.bext.now) }
+    {
+        self.bext.is_empty() || bext::read(self.bext).is_ok()
     }
-    if format.size != 16 {
-        return false;
+
+    // Whether chna's payload is absent or keeps its rules.
+    #[tactic(auto, using(crate::proofs::Inputs::chna_read))]
+    fn chna_good(self) -> bool
+        ensures { result ≡ eqb (length self.entry.chna.now) 0 || is_ok (chna_in self.entry.format.channels self.entry.chna.now) }
+    {
+        self.chna.is_empty() || chna::read(self.chna, self.format.channels).is_ok()
     }
-    if !bext_good(bext) {
-        return false;
+
+    // Whether a file can be made of these.
+    #[tactic(auto, unfolding(crate::specs::Files::input_good, le::specs::Choice::pick, le::specs::Choice::every))]
+    fn is_good(self) -> bool
+        ensures { result ≡ input_good self.entry.format self.entry.bext.now self.entry.chna.now self.entry.audio.now }
+    {
+        self.format.is_writable()
+            && self.format.size == 16
+            && self.bext_good()
+            && self.chna_good()
+            && self.audio.len() as u64 % self.format.block == 0
     }
-    if !chna_good(chna, format.channels) {
-        return false;
-    }
-    audio.len() as u64 % format.block == 0
 }
 
 // The bytes of a chunk with so large a payload.
@@ -88,10 +77,7 @@ fn optional_size(n: u64) -> u64
     requires { n < 2 ^ 63 }
     ensures { result ≡ optional_size n }
 {
-    if n == 0 {
-        return 0;
-    }
-    chunk_size(n)
+    if n == 0 { 0 } else { chunk_size(n) }
 }
 
 // The bytes of a file.
@@ -102,30 +88,24 @@ fn file_size(bext: u64, chna: u64, audio: u64) -> u64
     72 + optional_size(bext) + optional_size(chna) + chunk_size(audio)
 }
 
-// Whether a form can have this form size.
-fn form_fits(form: Form, size: u64) -> bool
-    ensures { result ≡ is_wide form || leb size 4294967294 }
+// Judges the whole input, and tells how long its file is: 16 where no file can be made of it, 17 where a size does not fit
+// its field.
+pub fn judge(form: Form, input: Input) -> Result<u64, Refusal>
+    ensures { result ≡ written_of (file_out form input.entry.format input.entry.bext.now input.entry.chna.now input.entry.audio.now) }
 {
-    match form {
-        Form::Riff => size <= LARGEST,
-        Form::Rf64 => true,
-        Form::Bw64 => true,
+    if !input.is_good() {
+        return Err(Refusal::BadRecord);
     }
-}
-
-// Judges the whole input, and tells how long its file is.
-pub fn judge(form: Form, format: Format, bext: &[u8], chna: &[u8], audio: &[u8]) -> Judged
-    ensures { result ≡ judged_as (file_out form format bext.now chna.now audio.now) }
-{
-    if !input_good(format, bext, chna, audio) {
-        return Judged::Refused(Refusal::BadRecord);
+    if LARGEST < input.bext.len() as u64 {
+        return Err(Refusal::TooLarge);
     }
-    if LARGEST < bext.len() as u64 {
-        return Judged::Refused(Refusal::TooLarge);
+    let size = file_size(
+        input.bext.len() as u64,
+        input.chna.len() as u64,
+        input.audio.len() as u64,
+    );
+    if !form.is_wide() && LARGEST < size - 8 {
+        return Err(Refusal::TooLarge);
     }
-    let size = file_size(bext.len() as u64, chna.len() as u64, audio.len() as u64);
-    if !form_fits(form, size - 8) {
-        return Judged::Refused(Refusal::TooLarge);
-    }
-    Judged::Size(size)
+    Ok(size)
 }

@@ -4,32 +4,57 @@ use mathlib.Core.Path.{◌≡◌, refl, sym, ap, ap₂, ◌∙◌, subst}
 use mathlib.Core.List.{List, [], ◌∷◌, ◌++◌, append_assoc, append-nil}
 use Prim.Native.Nat.{ℕ, ◌+◌, ◌-◌, ◌%◌, ◌≤◌}
 use native.Mathlib.Omega.{arith}
-use lib.ListN.{length, take, drop, set, replicate, length-append, length-take, length-drop, drop_of_length-le}
-use lib.Seq.{sets, sets-eq, drop-drop}
-use Rattle.le.specs.Number.{bytes, stored}
-use Rattle.le.proofs.Laws.{bytes-length, sets-append, stored-then}
+use lib.ListN.{length, take, drop, replicate, length-append, length-take, length-drop, drop_of_length-le}
+use lib.Seq.{sets, sets-eq, drop-drop, length-sets}
+use Rattle.le.specs.Number.{bytes}
+use Rattle.le.proofs.Laws.{bytes-length, sets-append}
 use Rattle.chunk.specs.Names.{WAVE}
-use Rattle.chunk.specs.Refusals.{given}
+use Rattle.chunk.specs.Refusals.{Ok}
 use Rattle.chunk.specs.Writes.{fitting, output_of}
 use Rattle.chunk.proofs.Outputs.{room}
+use Rattle.file_parts.specs.declared.Output.{Output}
 use Rattle.file_parts.specs.Parts.{pad_of, chunk_with, chunk_bytes}
 use Rattle.file_parts.specs.Code.{Puts}
 
+-- how long a number is, and two runs
+pub ruleset sizes = (bytes-length, length-append)
+
 -- ---- runs of bytes
 
-pub puts-nothing : (s : List ℕ) (at : ℕ) (bs : List ℕ) → bs ≡ [] → Puts bs at s s at
-puts-nothing s at bs e =
-    record { leaves = sym (ap (sets s at) e); next = omega (arith, ap length e) }
+pub puts-nothing : (bs : List ℕ) (o : Output) → bs ≡ [] → Puts bs o o
+puts-nothing bs o e =
+    record {
+      leaves = sym (ap (sets o.bytes.now o.at) e);
+      next = omega (arith, ap length e);
+      same_length = refl;
+      same_reference = refl;
+    }
 
-pub puts-as : {at r : ℕ} {s t : List ℕ} (bs cs : List ℕ) → bs ≡ cs → Puts cs at s t r → Puts bs at s t r
-puts-as {at} {r} {s} {t} bs cs e w = subst (λ (l : List ℕ). Puts l at s t r) (sym e) w
+pub puts-as : {o u : Output} (bs cs : List ℕ) → bs ≡ cs → Puts cs o u → Puts bs o u
+puts-as {o} {u} bs cs e w = subst (λ (l : List ℕ). Puts l o u) (sym e) w
 
 -- a run after a run
-pub puts_then : {xs ys s t u : List ℕ} {at n r : ℕ} → Puts xs at s t n → Puts ys n t u r → Puts (xs ++ ys) at s u r
-puts_then {xs} {ys} {s} {t} {u} {at} {n} {r} v w =
+pub puts_then : {xs ys : List ℕ} {o u v : Output} → Puts xs o u → Puts ys u v → Puts (xs ++ ys) o v
+puts_then {xs} {ys} {o} {u} {v} a b =
     record {
-      leaves = w.leaves ∙ ap₂ (λ (l : List ℕ) (k : ℕ). sets l k ys) v.leaves v.next ∙ sym (sets-append xs ys s at);
-      next = omega (arith, length-append xs ys);
+      leaves =
+          b.leaves
+          ∙ ap₂ (λ (l : List ℕ) (k : ℕ). sets l k ys) a.leaves a.next
+          ∙ sym (sets-append xs ys o.bytes.now o.at);
+      next = omega (arith, a.next, b.next, length-append xs ys);
+      same_length = b.same_length ∙ a.same_length;
+      same_reference = b.same_reference ∙ a.same_reference;
+    }
+
+-- an output in which a run was set
+pub puts-set : (bs : List ℕ) (o u : Output) → u.bytes.now ≡ sets o.bytes.now o.at bs → u.at ≡ o.at + length bs
+    → u.bytes.ghost_name ≡ o.bytes.ghost_name → Puts bs o u
+puts-set bs o u is next same =
+    record {
+      leaves = is;
+      next = next;
+      same_length = ap length is ∙ length-sets o.bytes.now o.at bs;
+      same_reference = same;
     }
 
 -- ---- a part of an output, which is as long as what is put there
@@ -42,20 +67,15 @@ module _ (out z bs : List ℕ) (at r : ℕ) (e : r ≡ at + length bs) (h : r �
   part_length = simp (length-take, length-drop) (omega arith)
 
   -- copied there
-  pub part-put : z ≡ bs → Puts bs at out (take at out ++ (z ++ drop (r - at) (drop at out))) r
+  pub part-put : z ≡ bs → take at out ++ (z ++ drop (r - at) (drop at out)) ≡ sets out at bs
   part-put w =
       let k : at + (r - at) ≡ at + length bs = omega arith in
-      record {
-        leaves =
-            ap₂ (λ (a b : List ℕ). take at out ++ (a ++ b)) w (drop-drop (r - at) at out ∙ ap (λ (n : ℕ). drop n out) k)
-            ∙ sym (append_assoc (take at out) bs (drop (at + length bs) out))
-            ∙ sym (sets-eq bs out at (omega arith));
-        next = e;
-      }
+      ap₂ (λ (a b : List ℕ). take at out ++ (a ++ b)) w (drop-drop (r - at) at out ∙ ap (λ (n : ℕ). drop n out) k)
+      ∙ sym (append_assoc (take at out) bs (drop (at + length bs) out))
+      ∙ sym (sets-eq bs out at (omega arith))
 
   -- or stored, where there is room for them
-  pub part-stored : z ≡ output_of part (fitting part (given bs))
-      → Puts bs at out (take at out ++ (z ++ drop (r - at) (drop at out))) r
+  pub part-stored : z ≡ output_of part (fitting part (Ok bs)) → take at out ++ (z ++ drop (r - at) (drop at out)) ≡ sets out at bs
   unfolding output_of
   part-stored w =
       part-put
@@ -66,67 +86,29 @@ module _ (out z bs : List ℕ) (at r : ℕ) (e : r ≡ at + length bs) (h : r �
 
 -- ---- a chunk
 
-header-length : (name own : ℕ) → length (bytes 4 name ++ bytes 4 own) ≡ 8
+pub header-length : (name own : ℕ) → length (bytes 4 name ++ bytes 4 own) ≡ 8
 header-length name own = omega (arith, length-append (bytes 4 name) (bytes 4 own), bytes-length 4 name, bytes-length 4 own)
 
-pub header-put : (s : List ℕ) (at name own : ℕ) (t : List ℕ) → t ≡ stored 4 (at + 4) own (stored 4 at name s)
-    → Puts (bytes 4 name ++ bytes 4 own) at s t (at + 8)
-unfolding stored
-header-put s at name own t e =
-    record { leaves = e ∙ sym (stored-then 4 at name (bytes 4 own) s); next = omega (arith, header-length name own) }
-
--- a payload follows its header
-pub header-next : (name own : ℕ) {at r : ℕ} {s t : List ℕ} → Puts (bytes 4 name ++ bytes 4 own) at s t r → r ≡ at + 8
-header-next name own w = omega (arith, header-length name own)
-
-pub pad-even : (s : List ℕ) (at size : ℕ) → size % 2 ≡ 0 → Puts (pad_of size) at s s at
+pub pad-even : (size : ℕ) → (size % 2 ≡ 1 → ⊥) → pad_of size ≡ []
 unfolding pad_of
-pad-even s at size e = puts-nothing s at (pad_of size) (ap (λ (k : ℕ). replicate k 0) e)
+pad-even size h = let e : size % 2 ≡ 0 = omega arith in ap (λ (k : ℕ). replicate k 0) e
 
-pub pad-odd : (s : List ℕ) (at size : ℕ) → (size % 2 ≡ 0 → ⊥) → Puts (pad_of size) at s (set s at 0) (at + 1)
+pub pad-odd : (size : ℕ) → size % 2 ≡ 1 → pad_of size ≡ 0 ∷ []
 unfolding pad_of
-pad-odd s at size h =
-    let e : size % 2 ≡ 1 = omega arith in
-    puts-as (pad_of size) (0 ∷ []) (ap (λ (k : ℕ). replicate k 0) e) (record { leaves = refl; next = refl })
+pad-odd size e = ap (λ (k : ℕ). replicate k 0) e
 
 -- header, payload and pad, each where the one before it ends, are a chunk
-pub chunk-puts : (name own : ℕ) {at at₁ at₂ r : ℕ} {p s s₁ s₂ s₃ : List ℕ} → Puts (bytes 4 name ++ bytes 4 own) at s s₁ at₁ → Puts p at₁ s₁ s₂ at₂
-    → Puts (pad_of (length p)) at₂ s₂ s₃ r → Puts (chunk_with name own p) at s s₃ r
+pub chunk-puts : (name own : ℕ) {p : List ℕ} {o o₁ o₂ o₃ : Output} → Puts (bytes 4 name ++ bytes 4 own) o o₁ → Puts p o₁ o₂
+    → Puts (pad_of (length p)) o₂ o₃ → Puts (chunk_with name own p) o o₃
 unfolding chunk_with
-chunk-puts name own {p = p} h k w =
+chunk-puts name own {p} h k w =
     puts-as (bytes 4 name ++ (bytes 4 own ++ (p ++ pad_of (length p)))) (bytes 4 name ++ bytes 4 own ++ (p ++ pad_of (length p)))
     (sym (append_assoc (bytes 4 name) (bytes 4 own) (p ++ pad_of (length p)))) (puts_then h (puts_then k w))
 
 -- ---- the opening
 
-first_chunk_lem : (first a b d : ℕ) → chunk_bytes first (bytes 8 a ++ (bytes 8 b ++ (bytes 8 d ++ bytes 4 0)))
-    ≡ bytes 4 first ++ (bytes 4 28 ++ (bytes 8 a ++ (bytes 8 b ++ (bytes 8 d ++ bytes 4 0))))
+pub first_lem : (name own first a b d : ℕ)
+    → bytes 4 name ++ (bytes 4 own ++ (bytes 4 WAVE ++ chunk_bytes first (bytes 8 a ++ (bytes 8 b ++ (bytes 8 d ++ bytes 4 0)))))
+    ≡ bytes 4 name ++ (bytes 4 own ++ (bytes 4 WAVE ++ (bytes 4 first ++ (bytes 4 28 ++ (bytes 8 a ++ (bytes 8 b ++ (bytes 8 d ++ bytes 4 0)))))))
 unfolding chunk_bytes chunk_with pad_of bytes
-first_chunk_lem first a b d = refl
-
-pub first-put : (s : List ℕ) (name own first a b d : ℕ) (t : List ℕ)
-    → t
-    ≡ stored 4 44 0
-    (stored 8 36 d
-    (stored 8 28 b (stored 8 20 a (stored 4 16 28 (stored 4 12 first (stored 4 8 WAVE (stored 4 4 own (stored 4 0 name s))))))))
-    → Puts (bytes 4 name ++ (bytes 4 own ++ (bytes 4 WAVE ++ chunk_bytes first (bytes 8 a ++ (bytes 8 b ++ (bytes 8 d ++ bytes 4 0)))))) 0 s t 48
-unfolding stored
-first-put s name own first a b d t e =
-    puts-as _ _ (ap (λ (l : List ℕ). bytes 4 name ++ (bytes 4 own ++ (bytes 4 WAVE ++ l))) (first_chunk_lem first a b d))
-    (record {
-      leaves =
-          e
-          ∙ sym
-          (stored-then 4 0 name _ s
-          ∙ stored-then 4 4 own _ _
-          ∙ stored-then 4 8 WAVE _ _
-          ∙ stored-then 4 12 first _ _
-          ∙ stored-then 4 16 28 _ _
-          ∙ stored-then 8 20 a _ _
-          ∙ stored-then 8 28 b _ _
-          ∙ stored-then 8 36 d _ _);
-      next = forty-eight;
-    })
-  where
-    forty-eight : 48 ≡ 0 + length (bytes 4 name ++ (bytes 4 own ++ (bytes 4 WAVE ++ (bytes 4 first ++ (bytes 4 28 ++ (bytes 8 a ++ (bytes 8 b ++ (bytes 8 d ++ bytes 4 0))))))))
-    forty-eight = simp (length-append, bytes-length)
+first_lem name own first a b d = refl

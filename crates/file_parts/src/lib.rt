@@ -1,6 +1,4 @@
 // The parts of a file that is written: a chunk, and all that stands ahead of fmt.
-//
-// Each store asks for room at its place, and answers the place that follows what it stored.
 #![tactic(auto)]
 
 ghost use Rattle.std.specs.Prelude.{◌≡◌, ◌++◌, ◌+◌, ◌%◌, ◌≤◌, length};
@@ -8,7 +6,6 @@ ghost use Rattle.le.specs.Number.{bytes};
 ghost use Rattle.chunk.specs.Names.{WAVE};
 ghost use Rattle.form.specs.Forms.{LEAST};
 ghost use Rattle.file_parts.specs.Parts.{pad_of, chunk_with, chunk_bytes, chunk_size, own_field, opening_bytes};
-ghost use Rattle.file_parts.specs.Code.{Puts};
 
 use chunk::Name;
 use form::{Ds64, Form};
@@ -17,96 +14,113 @@ use form::{Ds64, Form};
 pub fn own_field(form: Form, size: u64) -> u64
     ensures { result ≡ own_field form size }
 {
-    match form {
-        Form::Riff => size,
-        Form::Rf64 => chunk::ONES,
-        Form::Bw64 => chunk::ONES,
+    if form.is_wide() { chunk::ONES } else { size }
+}
+
+// An output that is filled from its start on, and the place of what comes next.
+// Kept: each step asks for its own room, since an invariant can't say how many bytes are still to come.
+#[derive(Drop)]
+pub struct Output<'a> {
+    pub bytes: &'a mut [u8],
+    pub at: usize,
+}
+
+impl<'a> Output<'a> {
+    ghost use Rattle.file_parts.specs.Code.{HasRoom, Puts, PutsBy};
+
+    // Stores the low N bytes of a number.
+    pub fn put_number<const N: usize>(&mut self, v: u64)
+        requires narrow { N ≤ 8 }
+        requires room { HasRoom N self.old }
+        ensures { Puts (bytes N v) self.old self.new }
+    {
+        le::store::<N>(self.bytes, self.at, v);
+        self.at += N;
     }
-}
 
-// Stores a chunk's name and size field.
-pub fn put_header(name: u64, own: u64, out: &mut [u8], at: usize) -> usize
-    requires { at + 8 ≤ length out.old }
-    ensures { Puts (bytes 4 name ++ bytes 4 own) at out.old out.new result }
-{
-    le::store4(out, at, name);
-    le::store4(out, at + 4, own);
-    at + 8
-}
-
-// Copies a payload.
-pub fn put_payload(payload: &[u8], out: &mut [u8], at: usize) -> usize
-    requires { at + length payload.now ≤ length out.old }
-    ensures { Puts payload.now at out.old out.new result }
-{
-    let end = at + payload.len();
-    out[at..end].copy_from_slice(payload);
-    end
-}
-
-// Stores the pad of a payload of this size, if it is odd.
-pub fn put_pad(size: usize, out: &mut [u8], at: usize) -> usize
-    requires { at + size % 2 ≤ length out.old }
-    ensures { Puts (pad_of size) at out.old out.new result }
-{
-    if size % 2 == 0 {
-        return at;
+    // Stores a chunk's name and size field.
+    #[tactic(auto, using(crate::proofs::Stores::sizes))]
+    pub fn put_header(&mut self, name: u64, own: u64)
+        requires { HasRoom 8 self.old }
+        ensures { Puts (bytes 4 name ++ bytes 4 own) self.old self.new }
+    {
+        self.put_number::<4>(name);
+        self.put_number::<4>(own);
     }
-    out[at] = 0;
-    at + 1
-}
 
-// Stores a chunk with this size field.
-pub fn put_chunk(name: u64, own: u64, payload: &[u8], out: &mut [u8], at: usize) -> usize
-    requires { at + chunk_size (length payload.now) ≤ length out.old }
-    ensures { Puts (chunk_with name own payload.now) at out.old out.new result }
-{
-    let at = put_header(name, own, out, at);
-    let at = put_payload(payload, out, at);
-    put_pad(payload.len(), out, at)
-}
+    // Copies a payload.
+    //
+    // Kept: beside put_part, since copy_from_slice can be called at a part of the payload's length alone.
+    pub fn put_payload(&mut self, payload: &[u8])
+        requires { HasRoom (length payload.now) self.old }
+        ensures { Puts payload.now self.old self.new }
+    {
+        let end = self.at + payload.len();
+        self.bytes[self.at..end].copy_from_slice(payload);
+        self.at = end;
+    }
 
-// Stores the form's name and field, WAVE, and a first chunk of 28 bytes.
-fn put_first(
-    name: u64,
-    own: u64,
-    first: u64,
-    size: u64,
-    audio: u64,
-    third: u64,
-    out: &mut [u8],
-) -> usize
-    requires { 20 + LEAST ≤ length out.old }
-    ensures { Puts (bytes 4 name ++ (bytes 4 own ++ (bytes 4 WAVE ++ chunk_bytes first (bytes 8 size ++ (bytes 8 audio ++ (bytes 8 third ++ bytes 4 0)))))) 0 out.old out.new result }
-{
-    le::store4(out, 0, name);
-    le::store4(out, 4, own);
-    le::store4(out, 8, Name::WAVE);
-    le::store4(out, 12, first);
-    le::store4(out, 16, Ds64::LEAST);
-    le::store8(out, 20, size);
-    le::store8(out, 28, audio);
-    le::store8(out, 36, third);
-    le::store4(out, 44, 0);
-    Ds64::END as usize
-}
+    // Stores a payload of so many bytes by what stores it at the start of a part.
+    pub fn put_part<F: FnOnce(&mut [u8])>(&mut self, len: usize, store: F)
+        requires room { HasRoom len self.old }
+        requires store { F.IsAlwaysCallable store }
+        ensures { PutsBy F.FnOnce store len self.old self.new }
+    {
+        let end = self.at + len;
+        store(&mut self.bytes[self.at..end]);
+        self.at = end;
+    }
 
-// Stores all that stands ahead of fmt, at the start of out.
-pub fn put_opening(form: Form, size: u64, audio: u64, frames: u64, out: &mut [u8]) -> usize
-    requires { 20 + LEAST ≤ length out.old }
-    ensures { Puts (opening_bytes form size audio frames) 0 out.old out.new result }
-{
-    match form {
-        Form::Riff => put_first(Name::RIFF, size, Name::JUNK, 0, 0, 0, out),
-        Form::Rf64 => put_first(
-            Name::RF64,
-            chunk::ONES,
-            Name::DS64,
-            size,
-            audio,
-            frames,
-            out,
-        ),
-        Form::Bw64 => put_first(Name::BW64, chunk::ONES, Name::DS64, size, audio, 0, out),
+    // Stores the pad of a payload of this size, if it is odd.
+    pub fn put_pad(&mut self, size: usize)
+        requires { HasRoom (size % 2) self.old }
+        ensures { Puts (pad_of size) self.old self.new }
+    {
+        if size % 2 == 1 {
+            self.bytes[self.at] = 0;
+            self.at += 1;
+        }
+    }
+
+    // Stores a chunk with this size field.
+    #[tactic(auto, using(crate::proofs::Stores::sizes), unfolding(crate::specs::Parts::chunk_size))]
+    pub fn put_chunk(&mut self, name: u64, own: u64, payload: &[u8])
+        requires { HasRoom (chunk_size (length payload.now)) self.old }
+        ensures { Puts (chunk_with name own payload.now) self.old self.new }
+    {
+        self.put_header(name, own);
+        self.put_payload(payload);
+        self.put_pad(payload.len());
+    }
+
+    // Stores the form's name and field, WAVE, and a first chunk of 28 bytes.
+    #[tactic(auto, using(crate::proofs::Stores::sizes))]
+    fn put_first(&mut self, name: u64, own: u64, first: u64, size: u64, audio: u64, third: u64)
+        requires { HasRoom (20 + LEAST) self.old }
+        ensures { Puts (bytes 4 name ++ (bytes 4 own ++ (bytes 4 WAVE ++ chunk_bytes first (bytes 8 size ++ (bytes 8 audio ++ (bytes 8 third ++ bytes 4 0)))))) self.old self.new }
+    {
+        self.put_number::<4>(name);
+        self.put_number::<4>(own);
+        self.put_number::<4>(Name::WAVE);
+        self.put_number::<4>(first);
+        self.put_number::<4>(Ds64::LEAST);
+        self.put_number::<8>(size);
+        self.put_number::<8>(audio);
+        self.put_number::<8>(third);
+        self.put_number::<4>(0);
+    }
+
+    // Stores all that stands ahead of fmt.
+    //
+    // Kept: a row for each form, since they differ in name and third number, and not only in width.
+    pub fn put_opening(&mut self, form: Form, size: u64, audio: u64, frames: u64)
+        requires { HasRoom (20 + LEAST) self.old }
+        ensures { Puts (opening_bytes form size audio frames) self.old self.new }
+    {
+        match form {
+            Form::Riff => self.put_first(Name::RIFF, size, Name::JUNK, 0, 0, 0),
+            Form::Rf64 => self.put_first(Name::RF64, chunk::ONES, Name::DS64, size, audio, frames),
+            Form::Bw64 => self.put_first(Name::BW64, chunk::ONES, Name::DS64, size, audio, 0),
+        }
     }
 }

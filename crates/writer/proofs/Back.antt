@@ -9,12 +9,12 @@ use native.Mathlib.Omega.{arith}
 use lib.ListN.{length, drop}
 use lib.Dec.{eqb, lit<}
 use borrow.Author.Tests.{eq-eqb}
+use Rattle.std.proofs.Common.{Option, None}
 use Rattle.le.specs.Number.{field}
 use Rattle.chunk.specs.declared.Entry.{Entry}
 use Rattle.chunk.specs.declared.Source.TheVariants.{Own}
 use Rattle.chunk.specs.declared.Refusal.TheVariants.{RaggedAudio}
-use Rattle.chunk.specs.declared.Verdict.TheVariants.{Accepted}
-use Rattle.chunk.specs.Refusals.{Answer, given}
+use Rattle.chunk.specs.Refusals.{Answer, Ok}
 use Rattle.chunk.specs.Names.{FMT, DATA, BEXT, CHNA, DS64}
 use Rattle.chunk.specs.Fields.{ONES}
 use Rattle.chunk.specs.Tables.{LIMIT, find}
@@ -34,7 +34,6 @@ use Rattle.fmt.specs.Writing.{format_bytes}
 use Rattle.fmt.proofs.Payloads.{out_of}
 use Rattle.fmt.proofs.RoundTrip.{reads-back}
 use Rattle.chna.specs.Records.{pads_zeroed}
-use Rattle.samples.specs.declared.Samples.TheVariants as samples
 use Rattle.wave.specs.Scans.{payload, whole_blocks, judged, Scan, scan, walk_from, walk32}
 use Rattle.samples.specs.Counts.{samples_of}
 use Rattle.wave.proofs.Scanned.{scanned-scan}
@@ -54,9 +53,9 @@ use Rattle.writer.proofs.Tables as tables
 -- ---- what a rule of sizes has to know of a written file
 
 pub record Knows (form : Form) (n : ℕ) (rule : Rule) : Type 0 where
-  pub first : rule 12 (first_name form) LEAST ≡ given (field_size LEAST)
-  pub plain : (at name own : ℕ) → (name ≡ DS64 → ⊥) → (own ≡ ONES → ⊥) → rule at name own ≡ given (field_size own)
-  pub audio : (at : ℕ) → rule at DATA (own_field form n) ≡ given (record { bytes = n; source = data_source form })
+  pub first : rule 12 (first_name form) LEAST ≡ Ok (field_size LEAST)
+  pub plain : (at name own : ℕ) → (name ≡ DS64 → ⊥) → (own ≡ ONES → ⊥) → rule at name own ≡ Ok (field_size own)
+  pub audio : (at : ℕ) → rule at DATA (own_field form n) ≡ Ok (record { bytes = n; source = data_source form })
 
 module _ (form : Form) (f : Format) (b c a : List ℕ) (w : Fine form f b c a) (small : length (file_bytes form f b c a) < 256 ^ 8) where
   abbrev pub s : List ℕ
@@ -183,20 +182,20 @@ module _ (form : Form) (f : Format) (b c a : List ℕ) (w : Fine form f b c a) (
   fmt-payload =
       ap (λ (e : Entry). payload e s) facts-are.fmt ∙ ap (λ (n : ℕ). field n 56 s) (sym sixteen) ∙ fmt-stands.holds
 
-  pub fmt-read : format_in (format_bytes f) ≡ given f
+  pub fmt-read : format_in (format_bytes f) ≡ Ok f
   fmt-read = reads-back f (format_bytes f) (out_of f w.input.fmt)
 
-  judged-is : judged (payload (find FMT table) s) (find DATA table).size ≡ given f
+  judged-is : judged (payload (find FMT table) s) (find DATA table).size ≡ Ok f
   unfolding judged whole_blocks entry
   judged-is =
       ap₂ judged fmt-payload (ap (λ (e : Entry). e.size) facts-are.audio)
       ∙ and_then-at (format_in (format_bytes f)) (λ (g : Format). whole_blocks (length a) g) f fmt-read
-      ∙ check-true (eqb (length a % f.block) 0) RaggedAudio (given f) (eq-eqb (length a % f.block) 0 w.input.blocks)
+      ∙ check-true (eqb (length a % f.block) 0) RaggedAudio (Ok f) (eq-eqb (length a % f.block) 0 w.input.blocks)
 
   abbrev pub scan-is : Scan
   scan-is = record { head = head; rows = table; format = f }
 
-  pub scan-accepts : scan s ≡ given scan-is
+  pub scan-accepts : scan s ≡ Ok scan-is
   scan-accepts =
       scanned-scan s scan-is
       (record {
@@ -232,8 +231,8 @@ module _ (form : Form) (f : Format) (b c a : List ℕ) (w : Fine form f b c a) (
 
   -- ---- sample count and walk
 
-  pub no-samples : samples_of s ≡ samples.None
-  no-samples = samples-given s scan-is scan-accepts ∙ samples-none scan-is s facts-are.no_fact
+  pub no-samples : samples_of s ≡ Ok None
+  no-samples = samples-given s scan-is scan-accepts ∙ ap (λ (n : Option ℕ). Ok n) (samples-none scan-is s facts-are.no_fact)
 
   own-knows : form ≡ Riff → Knows form (length a) own_size
   unfolding own_field data_source
@@ -244,10 +243,10 @@ module _ (form : Form) (f : Format) (b c a : List ℕ) (w : Fine form f b c a) (
         audio = λ at.
             ap (own_size at DATA) (ap (λ (x : Form). own_field x (length a)) r)
             ∙ own-given at DATA (length a) (λ e. omega (arith, audio-fits r))
-            ∙ ap (λ (x : Form). given (record { bytes = length a; source = data_source x })) (sym r);
+            ∙ ap (λ (x : Form). Ok (record { bytes = length a; source = data_source x })) (sym r);
       }
 
-  pub walk-whole : form ≡ Riff → walk32 s ≡ record { rows = table; end = Accepted }
+  pub walk-whole : form ≡ Riff → walk32 s ≡ record { rows = table; end = Ok tt }
   unfolding walk32 walk_from
   walk-whole r =
       ap (λ (x : Answer ℕ). walk_from x s) (opened-32 s head head_opened)

@@ -13,7 +13,7 @@ use Rattle.le.proofs.Laws.{bytes-length, number_at, drop_past}
 use Rattle.chunk.specs.Names.{WAVE, DS64, JUNK, DATA}
 use Rattle.chunk.specs.Fields.{ONES}
 use Rattle.chunk.specs.declared.Source.TheVariants.{DataSize}
-use Rattle.chunk.specs.Refusals.{given}
+use Rattle.chunk.specs.Refusals.{Ok}
 use Rattle.chunk.specs.Walks.{field_size}
 use Rattle.chunk.proofs.Checks.{true-false}
 use Rattle.form.specs.declared.Form.{Form}
@@ -191,15 +191,15 @@ module _ (size audio frames : ℕ) (s body : List ℕ) (whole : 8 + size ≡ len
 
 -- ---- the sizes that the scan knows
 
-pub sized-first : (form : Form) (s : List ℕ) (ks : List Ds64Entry) → true_size (head_for form s) ks 12 (first_name form) LEAST ≡ given (field_size LEAST)
+pub sized-first : (form : Form) (s : List ℕ) (ks : List Ds64Entry) → true_size (head_for form s) ks 12 (first_name form) LEAST ≡ Ok (field_size LEAST)
 unfolding first_name is_wide
 sized-first Riff s ks = true-own (head_for Riff s) ks 12 JUNK LEAST (λ e. omega arith) (λ e. omega arith)
 sized-first Rf64 s ks = true-ds64 (head_for Rf64 s) ks LEAST refl (λ e. omega arith)
 sized-first Bw64 s ks = true-ds64 (head_for Bw64 s) ks LEAST refl (λ e. omega arith)
 
 pub sized-data : (form : Form) (s : List ℕ) (ks : List Ds64Entry) (n at : ℕ) → (form ≡ Riff → n ≤ 4294967294)
-    → (is_wide form ≡ true → number 8 28 s ≡ n) → true_size (head_for form s) ks at DATA (own_field form n) ≡ given (record { bytes = n; source = data_source form })
+    → (is_wide form ≡ true → number 8 28 s ≡ n) → true_size (head_for form s) ks at DATA (own_field form n) ≡ Ok (record { bytes = n; source = data_source form })
 unfolding own_field is_wide ds64_at data_source
 sized-data Riff s ks n at h k = let l = h refl in true-own (head_for Riff s) ks at DATA n (λ e. omega arith) (λ e. omega arith)
-sized-data Rf64 s ks n at h k = true-data (head_for Rf64 s) ks at refl ∙ ap (λ (m : ℕ). given (record { bytes = m; source = DataSize })) (k refl)
-sized-data Bw64 s ks n at h k = true-data (head_for Bw64 s) ks at refl ∙ ap (λ (m : ℕ). given (record { bytes = m; source = DataSize })) (k refl)
+sized-data Rf64 s ks n at h k = true-data (head_for Rf64 s) ks at refl ∙ ap (λ (m : ℕ). Ok (record { bytes = m; source = DataSize })) (k refl)
+sized-data Bw64 s ks n at h k = true-data (head_for Bw64 s) ks at refl ∙ ap (λ (m : ℕ). Ok (record { bytes = m; source = DataSize })) (k refl)

@@ -15,7 +15,7 @@ use Rattle.le.proofs.Laws.{bytes-length, number_at, drop_past, field_at}
 use Rattle.chunk.specs.declared.Entry.{Entry}
 use Rattle.chunk.specs.declared.Source.{Source}
 use Rattle.chunk.specs.declared.Source.TheVariants.{Own}
-use Rattle.chunk.specs.Refusals.{given}
+use Rattle.chunk.specs.Refusals.{Ok}
 use Rattle.chunk.specs.Walks.{Rule, field_size, past}
 use Rattle.chunk.proofs.Checks.{pick_true, pick-false}
 use Rattle.chunk.proofs.Laid.{Row, Laid, next}
@@ -54,7 +54,7 @@ stands s at name own p rest n o e =
     }
 
 row_of : {rule : Rule} {s : List ℕ} {at name own n : ℕ} {x : Source} {p rest : List ℕ} → Stands s at name own p rest → length p ≡ n
-    → rule at name own ≡ given (record { bytes = n; source = x }) → Row rule s at (entry x name (at + 8) n)
+    → rule at name own ≡ Ok (record { bytes = n; source = x }) → Row rule s at (entry x name (at + 8) n)
 unfolding entry past chunk_size
 row_of {rule} {s} {at} {name} {own} {n} {x} {p} {rest} w q h =
     record {
@@ -70,7 +70,7 @@ past-entry x name at n = omega arith
 
 -- a chunk of this size, and the rows after it
 pub laid_next : (rule : Rule) (s : List ℕ) (at name own : ℕ) (p rest : List ℕ) (rows : List Entry) (x : Source) (place n : ℕ)
-    → Stands s at name own p rest → place ≡ at + 8 → length p ≡ n → rule at name own ≡ given (record { bytes = n; source = x })
+    → Stands s at name own p rest → place ≡ at + 8 → length p ≡ n → rule at name own ≡ Ok (record { bytes = n; source = x })
     → Laid rule s (at + chunk_size n) rows → Laid rule s at (entry x name place n ∷ rows)
 laid_next rule s at name own p rest rows x place n w e q h l =
     subst (λ (k : ℕ). Laid rule s at (entry x name k n ∷ rows)) (sym e)
@@ -99,7 +99,7 @@ optional-stands s at name p rest n o h e =
 
 pub laid-optional : (rule : Rule) (s : List ℕ) (at name : ℕ) (p rest : List ℕ) (rows : List Entry) (place n : ℕ)
     → name < 256 ^ 4 → length p < 256 ^ 4 → drop at s ≡ optional name p ++ rest → place ≡ at + 8 → length p ≡ n
-    → rule at name n ≡ given (field_size n) → Laid rule s (at + optional_size n) rows → Laid rule s at (row_for name place n ++ rows)
+    → rule at name n ≡ Ok (field_size n) → Laid rule s (at + optional_size n) rows → Laid rule s at (row_for name place n ++ rows)
 laid-optional rule s at name p rest rows place n x o e f q k l = go (eqb n 0) refl
   where
     go : (b : Bool) → eqb n 0 ≡ b → Laid rule s at (row_for name place n ++ rows)

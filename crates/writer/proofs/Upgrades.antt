@@ -16,7 +16,7 @@ use Rattle.le.proofs.Laws.{bytes-length, stored-length, stored-split}
 use Rattle.chunk.specs.declared.Entry.{Entry}
 use Rattle.chunk.specs.Names.{FMT, DATA, BEXT, CHNA, DS64}
 use Rattle.chunk.specs.Fields.{ONES}
-use Rattle.chunk.specs.Refusals.{given}
+use Rattle.chunk.specs.Refusals.{Ok}
 use Rattle.chunk.specs.Tables.{find}
 use Rattle.chunk.proofs.Checks.{check-true, pick-false}
 use Rattle.form.specs.declared.Form.{Form}
@@ -235,7 +235,7 @@ module _ (f : Format) (b c a : List ℕ) (w : Fine Riff f b c a) (small : length
       ∙ ap (λ (n : ℕ). first (target_form t) n ++ (between ++ chunk_with DATA (own_field (target_form t) (length a)) a)) same_size
       ∙ sym (split (target_form t))
 
-  out-is : file_out (target_form t) f b c a ≡ given (file_bytes (target_form t) f b c a)
+  out-is : file_out (target_form t) f b c a ≡ Ok (file_bytes (target_form t) f b c a)
   unfolding file_out sizes_good
   out-is =
       check-true (input_good f b c a) _ _ w.is_good
@@ -246,4 +246,4 @@ module _ (f : Format) (b c a : List ℕ) (w : Fine Riff f b c a) (small : length
   pub upgrade-is : upgraded t file ≡ file_out (target_form t) f b c a
   unfolding is_wide reserved table_for first_name entry
   upgrade-is =
-      upgrade-given t file scan-of (back.scan-accepts Riff f b c a w small) refl refl ∙ ap given bytes-are ∙ sym out-is
+      upgrade-given t file scan-of (back.scan-accepts Riff f b c a w small) refl refl ∙ ap Ok bytes-are ∙ sym out-is

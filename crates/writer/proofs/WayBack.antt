@@ -8,8 +8,7 @@ use native.Mathlib.Omega.{arith}
 use lib.ListN.{length, take, length-take}
 use Rattle.le.specs.Number.{Bytes, number}
 use Rattle.chunk.specs.declared.Refusal.{Refusal}
-use Rattle.chunk.specs.declared.Written.TheVariants as written
-use Rattle.chunk.specs.Refusals.{given}
+use Rattle.chunk.specs.Refusals.{Err, Ok}
 use Rattle.chunk.specs.Writes.{Writes}
 use Rattle.chunk.proofs.Outputs.{wrote, refusal-keeps}
 use Rattle.form.specs.declared.Form.{Form}
@@ -89,7 +88,7 @@ module _ (form : Form) (f : Format) (b c a : List ℕ) (w : Fine form f b c a) (
       upgrades Bw64 e w small t = absurd (let z : ◌≡◌ {A = ℕ} 0 1 = cc in omega arith)
 
 -- Demand 2's last sentence: for every input that isn't refused.
-pub way_back : (form : Form) (f : Format) (b c a bs : List ℕ) → Bytes c → length bs < 256 ^ 8 → file_out form f b c a ≡ given bs
+pub way_back : (form : Form) (f : Format) (b c a bs : List ℕ) → Bytes c → length bs < 256 ^ 8 → file_out form f b c a ≡ Ok bs
     → WayBack form f b c a bs
 way_back form f b c a bs bytes small e =
     let k = out-fine form f b c a bs e in
@@ -100,11 +99,11 @@ way_back form f b c a bs bytes small e =
 
 -- the part that the writer says it wrote
 pub written-way-back : (form : Form) (f : Format) (b c a entry exit : List ℕ) (n : ℕ) → Bytes c → length exit < 256 ^ 8
-    → Writes (file_out form f b c a) entry exit (written.Bytes n) → WayBack form f b c a (take n exit)
+    → Writes (file_out form f b c a) entry exit (Ok n) → WayBack form f b c a (take n exit)
 written-way-back form f b c a entry exit n bytes small h =
     way_back form f b c a (take n exit) bytes (omega (arith, length-take n exit)) (wrote (file_out form f b c a) entry exit n h).is_given
 
 -- a refusal changes no byte
 pub refusal-changes-nothing : (form : Form) (f : Format) (b c a entry exit : List ℕ) (r : Refusal)
-    → Writes (file_out form f b c a) entry exit (written.Refused r) → exit ≡ entry
+    → Writes (file_out form f b c a) entry exit (Err r) → exit ≡ entry
 refusal-changes-nothing form f b c a = refusal-keeps (file_out form f b c a)

@@ -1,13 +1,12 @@
 -- The way back: what the scan, the walk, the readers and the upgrade say of a file that was written. The words of the
 -- statements, which proofs/WayBack.antt proves of every input that isn't refused.
-use Rattle.std.specs.Prelude.{ℕ, ◌+◌, ◌/◌, ◌%◌, ◌≡◌, List, [], ◌∷◌, ◌++◌, length, eqb}
+use Rattle.std.specs.Prelude.{ℕ, ◌+◌, ◌/◌, ◌%◌, ◌≡◌, List, [], ◌∷◌, ◌++◌, None, length, eqb}
 use Rattle.le.specs.Number.{number}
 use Rattle.le.specs.Choice.{pick}
 use Rattle.chunk.specs.declared.Entry.{Entry}
 use Rattle.chunk.specs.declared.Source.{Source}
 use Rattle.chunk.specs.declared.Source.TheVariants.{Own, DataSize}
-use Rattle.chunk.specs.declared.Verdict.TheVariants.{Accepted}
-use Rattle.chunk.specs.Refusals.{given}
+use Rattle.chunk.specs.Refusals.{Ok}
 use Rattle.chunk.specs.Names.{DS64, JUNK, FMT, DATA, BEXT, CHNA}
 use Rattle.chunk.specs.Tables.{count, find}
 use Rattle.form.specs.declared.Form.{Form}
@@ -17,7 +16,6 @@ use Rattle.fmt.specs.declared.Format.{Format}
 use Rattle.fmt.specs.Formats.{format_in}
 use Rattle.bext.specs.Records.{bext_in}
 use Rattle.chna.specs.Records.{chna_in, pads_zeroed}
-use Rattle.samples.specs.declared.Samples.TheVariants as samples
 use Rattle.wave.specs.Scans.{Scan, scan, payload, walk32}
 use Rattle.samples.specs.Counts.{samples_of}
 use Rattle.upgrade.specs.declared.Target.{Target}
@@ -61,14 +59,14 @@ table_for form b c a =
 pub record WayBack (form : Form) (f : Format) (b c a bs : List ℕ) : Type 0 where
   -- the scan accepts exactly the written part, with the table JUNK or ds64, fmt, bext, chna, data at their places
   pub scanned : Scan
-  pub accepted : scan bs ≡ given scanned
+  pub accepted : scan bs ≡ Ok scanned
   pub form_is : scanned.head.form ≡ form
   pub rows : scanned.rows ≡ table_for form (length b) (length c) (length a)
   -- "Without bext and chna the file has 80 bytes plus audio and pad."
   pub long : length bs ≡ 80 + optional_size (length b) + optional_size (length c) + length a + length a % 2
   -- the fmt reader gives the record that was given
   pub format : scanned.format ≡ f
-  pub fmt : format_in (payload (find FMT scanned.rows) bs) ≡ given f
+  pub fmt : format_in (payload (find FMT scanned.rows) bs) ≡ Ok f
   -- the bext payload is the given one, and its reader gives the same record
   pub bext : (length b ≡ 0 → ⊥) → payload (find BEXT scanned.rows) bs ≡ b
   pub bext_record : (length b ≡ 0 → ⊥) → bext_in (payload (find BEXT scanned.rows) bs) ≡ bext_in b
@@ -80,11 +78,11 @@ pub record WayBack (form : Form) (f : Format) (b c a bs : List ℕ) : Type 0 whe
   -- the audio is the same bytes
   pub audio : payload (find DATA scanned.rows) bs ≡ a
   -- the sample count is none
-  pub samples : samples_of bs ≡ samples.None
+  pub samples : samples_of bs ≡ Ok None
   -- "RF64's third number is the frame count"; BW64's is "zero when written"
   pub third : form ≡ Rf64 → number 8 36 bs ≡ length a / f.block
   pub third_zero : form ≡ Bw64 → number 8 36 bs ≡ 0
   -- the 32-bit walk shows a RIFF file whole, and ends with no refusal
-  pub walk : form ≡ Riff → walk32 bs ≡ record { rows = table_for form (length b) (length c) (length a); end = Accepted }
+  pub walk : form ≡ Riff → walk32 bs ≡ record { rows = table_for form (length b) (length c) (length a); end = Ok tt }
   -- a RIFF file can be upgraded, and then is, byte for byte, what is written for that form from the same input
   pub upgrades : form ≡ Riff → (t : Target) → upgraded t bs ≡ file_out (target_form t) f b c a

@@ -7,6 +7,6 @@ pub returns-then-n-eq0 : goal.returns-then-n-eq0
 returns-then-n-eq0 c =
     sym (size_none _ c.if-n-eq0.true)
 
-pub returns : goal.returns
-returns c =
+pub returns-else-n-eq0 : goal.returns-else-n-eq0
+returns-else-n-eq0 c =
     c.chunk_size.ensures ∙ sym (size-some _ c.if-n-eq0.false)

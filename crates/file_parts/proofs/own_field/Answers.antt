@@ -1,20 +1,25 @@
--- `file_parts::own_field` meets its contract: in each arm the form is known.
-use mathlib.Core.Path.{sym, ap}
+-- `file_parts::own_field` meets its contract: all ones in a 64-bit form.
+use mathlib.Core.Path.{◌≡◌, refl, sym, ◌∙◌}
+use Prim.Native.Nat.{ℕ}
+use Rattle.le.specs.Choice.{pick}
+use Rattle.chunk.specs.Fields.{ONES}
+use Rattle.chunk.proofs.Checks.{pick_true, pick-false}
 use Rattle.form.specs.declared.Form.{Form}
+use Rattle.form.specs.declared.Form.TheVariants.{Riff, Rf64, Bw64}
+use Rattle.form.specs.Forms.{is_wide}
 use Rattle.file_parts.specs.Parts.{own_field}
 use Rattle.file_parts.proofs.own_field.Goals as goal
 
-pub returns-in-Riff : goal.returns-in-Riff
-unfolding own_field
-returns-in-Riff c =
-    sym (ap (λ (f : Form). own_field f c.args.size) c.in-Riff.is)
+own-picked : (form : Form) (size : ℕ) → pick (is_wide form) ONES size ≡ own_field form size
+unfolding own_field is_wide pick
+own-picked Riff size = refl
+own-picked Rf64 size = refl
+own-picked Bw64 size = refl
 
-pub returns-in-Rf64 : goal.returns-in-Rf64
-unfolding own_field
-returns-in-Rf64 c =
-    sym (ap (λ (f : Form). own_field f c.args.size) c.in-Rf64.is)
+pub returns-then-is_wide : goal.returns-then-is_wide
+returns-then-is_wide c =
+    sym (pick_true _ _ _ (sym c.is_wide.ensures ∙ c.if-is_wide.true)) ∙ own-picked c.args.form c.args.size
 
-pub returns-in-Bw64 : goal.returns-in-Bw64
-unfolding own_field
-returns-in-Bw64 c =
-    sym (ap (λ (f : Form). own_field f c.args.size) c.in-Bw64.is)
+pub returns-else-is_wide : goal.returns-else-is_wide
+returns-else-is_wide c =
+    sym (pick-false _ _ _ (sym c.is_wide.ensures ∙ c.if-is_wide.false)) ∙ own-picked c.args.form c.args.size

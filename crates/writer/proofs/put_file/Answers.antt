@@ -1,11 +1,9 @@
 -- `writer::put_file` meets its contract: five stores, each where the one before it ends, are one store of the file.
--- ---- where each part ends
--- ---- the needs
-use mathlib.Core.Path.{◌≡◌, sym, ap, ap₂, ◌∙◌}
-use Prim.Native.Nat.{ℕ, ◌+◌, ◌-◌, ◌/◌}
+use mathlib.Core.Path.{sym, ap, ◌∙◌}
+use Prim.Native.Nat.{ℕ, ◌-◌, ◌/◌}
 use native.Mathlib.Omega.{arith}
 use lib.ListN.{length}
-use Rattle.chunk.specs.Names.{BEXT, CHNA, DATA}
+use Rattle.chunk.specs.Names.{DATA}
 use Rattle.chna.proofs.Pads.{zeroed-length}
 use Rattle.file_parts.specs.Parts.{chunk_with, chunk_size, optional_size, opening_bytes}
 use Rattle.file_parts.proofs.Lengths.{optional-length, opening-length}
@@ -20,51 +18,40 @@ unfolding file_size
 overflow_sub-size c =
     omega arith
 
-pub put_opening-at-requires : goal.put_opening-at-requires
+pub put_opening-requires : goal.put_opening-requires
 unfolding chunk_size file_size
-put_opening-at-requires c =
+put_opening-requires c =
     omega arith
 
-pub put_fmt-at-requires : goal.put_fmt-at-requires
+pub put_fmt-requires : goal.put_fmt-requires
 unfolding chunk_size file_size
-put_fmt-at-requires c =
-    let opening-end : c.put_opening-at.result ≡ 48 = c.put_opening-at.ensures.next ∙ ap (λ (n : ℕ). 0 + n) (opening-length _ _ _ _) in
-    (c.requires.fmt, omega (arith, opening-end))
+put_fmt-requires c =
+    (c.requires.ready.fmt, omega (arith, opening-length))
 
-pub put_bext-at-requires : goal.put_bext-at-requires
+pub put_bext-requires : goal.put_bext-requires
 unfolding chunk_size file_size
-put_bext-at-requires c =
-    let opening-end : c.put_opening-at.result ≡ 48 = c.put_opening-at.ensures.next ∙ ap (λ (n : ℕ). 0 + n) (opening-length _ _ _ _) in
-    let fmt-end : c.put_fmt-at.result ≡ 72 = c.put_fmt-at.ensures.next ∙ ap₂ (λ (m n : ℕ). m + n) opening-end (fmt-length _ c.requires.fmt) in
-    omega (arith, fmt-end)
+put_bext-requires c =
+    omega (arith, opening-length, fmt-length c.args.input.format c.requires.ready.fmt)
 
-pub put_chna-at-requires : goal.put_chna-at-requires
+pub put_chna-requires : goal.put_chna-requires
 unfolding chunk_size file_size
-put_chna-at-requires c =
-    let opening-end : c.put_opening-at.result ≡ 48 = c.put_opening-at.ensures.next ∙ ap (λ (n : ℕ). 0 + n) (opening-length _ _ _ _) in
-    let fmt-end : c.put_fmt-at.result ≡ 72 = c.put_fmt-at.ensures.next ∙ ap₂ (λ (m n : ℕ). m + n) opening-end (fmt-length _ c.requires.fmt) in
-    let bext-end : c.put_bext-at.result ≡ 72 + optional_size (length c.args.bext.now) = c.put_bext-at.ensures.next ∙ ap₂ (λ (m n : ℕ). m + n) fmt-end (optional-length BEXT _) in
-    omega (arith, bext-end)
+put_chna-requires c =
+    omega (arith, opening-length, fmt-length c.args.input.format c.requires.ready.fmt, optional-length)
 
 pub put_chunk-requires : goal.put_chunk-requires
 unfolding file_size
 put_chunk-requires c =
-    let opening-end : c.put_opening-at.result ≡ 48 = c.put_opening-at.ensures.next ∙ ap (λ (n : ℕ). 0 + n) (opening-length _ _ _ _) in
-    let fmt-end : c.put_fmt-at.result ≡ 72 = c.put_fmt-at.ensures.next ∙ ap₂ (λ (m n : ℕ). m + n) opening-end (fmt-length _ c.requires.fmt) in
-    let bext-end : c.put_bext-at.result ≡ 72 + optional_size (length c.args.bext.now) = c.put_bext-at.ensures.next ∙ ap₂ (λ (m n : ℕ). m + n) fmt-end (optional-length BEXT _) in
-    let chna-end : let s = c.args in
-    c.put_chna-at.result ≡ 72 + optional_size (length s.bext.now) + optional_size (length s.chna.now) = c.put_chna-at.ensures.next ∙ ap₂ (λ (m n : ℕ). m + n) bext-end (optional-length CHNA _ ∙ ap optional_size (zeroed-length _)) in
-    omega (arith, chna-end)
+    omega (arith, opening-length, fmt-length c.args.input.format c.requires.ready.fmt, optional-length, ap optional_size (zeroed-length c.args.input.chna.now))
 
 pub returns : goal.returns
 unfolding body_bytes file_bytes
 returns c =
-    let f = c.args.format in
-    let a = c.args.audio.now in
-    let size = form-size f c.requires.fmt c.args.form c.args.bext.now c.args.chna.now a ∙ ap (λ (n : ℕ). n - 8) (sym c.requires.sized) in
+    let i = c.args.input in
+    let a = i.audio.now in
+    let size = form-size i.format c.requires.ready.fmt c.args.form i.bext.now i.chna.now a ∙ ap (λ (n : ℕ). n - 8) (sym c.requires.ready.sized) in
     puts_then
-    (puts-as _ _ (ap (λ (n : ℕ). opening_bytes c.args.form n (length a) (length a / f.block)) size) c.put_opening-at.ensures)
-    (puts_then c.put_fmt-at.ensures
-    (puts_then c.put_bext-at.ensures
-    (puts_then c.put_chna-at.ensures
+    (puts-as _ _ (ap (λ (n : ℕ). opening_bytes c.args.form n (length a) (length a / i.format.block)) size) c.put_opening.ensures)
+    (puts_then c.put_fmt.ensures
+    (puts_then c.put_bext.ensures
+    (puts_then c.put_chna.ensures
     (puts-as _ _ (ap (λ (n : ℕ). chunk_with DATA n a) (sym c.own_field-own.ensures)) c.put_chunk.ensures))))

@@ -2,47 +2,45 @@
 use mathlib.Core.Path.{◌≡◌, sym, ap, ◌∙◌}
 use mathlib.Core.List.{◌++◌}
 use Prim.Native.Nat.{ℕ, ◌≤◌}
-use native.Mathlib.Nat.{zero-add}
 use native.Mathlib.Omega.{arith}
 use lib.ListN.{length, drop}
+use Rattle.std.proofs.Common.{rules}
+use Rattle.chunk.specs.Refusals.{Err}
 use Rattle.chunk.proofs.Outputs.{puts-front, refuses, lacks-room, writes}
 use Rattle.file.specs.Files.{file_bytes}
 use Rattle.file.proofs.Inputs.{block-least-of}
 use Rattle.file.proofs.Sizes.{file-length}
-use Rattle.file.proofs.Outs.{Sized, judged-refused, judged-size}
+use Rattle.file.proofs.Outs.{judged-refused, judged-size}
 use Rattle.writer.proofs.write.Goals as goal
+
+pub returns-in_err-size : goal.returns-in_err-size
+returns-in_err-size c =
+    let h : c.from_residual.result ≡ Err c.in_err-size.field-0.0 = search rules in
+    rw h (refuses _ _ _ (judged-refused _ _ (sym c.judge.ensures ∙ c.in_err-size.was)))
 
 pub returns-then-out-size : goal.returns-then-out-size
 returns-then-out-size c =
-    let sized : let s = c.args in
-    Sized s.form s.format s.bext.now s.chna.now s.audio.now c.in-Size.size = judged-size _ _ _ _ _ _ (sym c.judge-judged.ensures ∙ c.in-Size.is) in
-    let w = sized in lacks-room _ _ _ w.is_given (omega arith)
+    let w = judged-size _ _ _ _ _ _ (sym c.judge.ensures ∙ c.in_ok-size.was) in
+    lacks-room _ _ _ w.is_given (omega arith)
 
-pub put_file-end-requires : goal.put_file-end-requires
-put_file-end-requires c =
-    let sized : let s = c.args in
-    Sized s.form s.format s.bext.now s.chna.now s.audio.now c.in-Size.size = judged-size _ _ _ _ _ _ (sym c.judge-judged.ensures ∙ c.in-Size.is) in
-    let w = sized in
+pub store-requires : goal.store-requires
+store-requires c =
+    let w = judged-size _ _ _ _ _ _ (sym c.judge.ensures ∙ c.in_ok-size.was) in
     record {
-      fmt = w.input.sixteen;
-      block = block-least-of _ w.input.fmt;
-      sized = w.long ∙ file-length _ w.input.sixteen _ _ _ _;
+      ready =
+          record {
+            fmt = w.input.sixteen;
+            block = block-least-of _ w.input.fmt;
+            sized = w.long ∙ file-length _ w.input.sixteen _ _ _ _;
+          };
       room = omega arith;
     }
 
-pub returns-in-Refused : goal.returns-in-Refused
-returns-in-Refused c =
-    refuses _ _ _ (judged-refused _ _ (sym c.judge-judged.ensures ∙ c.in-Refused.is))
-
-pub returns-else-out-size : goal.returns-else-out-size
-returns-else-out-size c =
-    let sized : let s = c.args in
-    Sized s.form s.format s.bext.now s.chna.now s.audio.now c.in-Size.size = judged-size _ _ _ _ _ _ (sym c.judge-judged.ensures ∙ c.in-Size.is) in
-    let s = c.args in
-    let w = sized in
-    let stored = c.put_file-end in
-    let bs = file_bytes s.form s.format s.bext.now s.chna.now s.audio.now in
-    let long : stored.result ≡ length bs = stored.ensures.next ∙ zero-add (length bs) in
-    let fits : length bs ≤ length s.out.now = omega arith in
-    writes _ _ bs w.is_given _ stored.result long (omega arith)
-    (stored.ensures.leaves ∙ puts-front s.out.now bs fits ∙ ap (λ (n : ℕ). bs ++ drop n s.out.now) (sym long))
+pub returns : goal.returns
+returns c =
+    let w = judged-size _ _ _ _ _ _ (sym c.judge.ensures ∙ c.in_ok-size.was) in
+    let i = c.args.input in
+    let s = c.args.out.now in
+    let bs = file_bytes c.args.form i.format i.bext.now i.chna.now i.audio.now in
+    let fits : length bs ≤ length s = omega arith in
+    writes _ _ bs w.is_given _ _ w.long (omega arith) (c.store.ensures ∙ puts-front s bs fits ∙ ap (λ (n : ℕ). bs ++ drop n s) (sym w.long))

@@ -1,18 +1,18 @@
--- `file_parts::put_opening` meets its contract: in each arm the form is known.
+-- `file_parts::Output::put_opening` meets its contract: in each arm the form is known.
 use mathlib.Core.Path.{◌≡◌, ap}
-use mathlib.Core.List.{List}
 use Prim.Native.Nat.{ℕ}
 use Rattle.le.specs.Number.{bytes}
 use Rattle.form.specs.declared.Form.{Form}
 use Rattle.form.specs.Forms.{name_of}
+use Rattle.file_parts.specs.declared.Output.{Output}
 use Rattle.file_parts.specs.Parts.{opening_bytes, first_chunk, own_field}
 use Rattle.file_parts.specs.Code.{Puts}
 use Rattle.file_parts.proofs.Stores.{puts-as}
-use Rattle.file_parts.proofs.put_opening.Goals as goal
+use Rattle.file_parts.proofs.Output.put_opening.Goals as goal
 
 -- what is stored for the form that was matched
-at-form : (size audio frames : ℕ) {form known : Form} {s t : List ℕ} {r : ℕ} → form ≡ known → Puts (opening_bytes known size audio frames) 0 s t r
-    → Puts (opening_bytes form size audio frames) 0 s t r
+at-form : (size audio frames : ℕ) {form known : Form} {o u : Output} → form ≡ known → Puts (opening_bytes known size audio frames) o u
+    → Puts (opening_bytes form size audio frames) o u
 at-form size audio frames e w = puts-as _ _ (ap (λ (f : Form). opening_bytes f size audio frames) e) w
 
 pub returns-in-Riff : goal.returns-in-Riff
