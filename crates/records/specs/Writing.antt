@@ -1,5 +1,5 @@
 -- What the exported writers of records write, as include/symphedra.h lays it out.
-use Rattle.std.specs.Prelude.{ℕ, List, length, get_or, eqb}
+use Rattle.std.specs.Prelude.{ℕ, List, length, get_or, Option, Some, None, eqb}
 use Rattle.le.specs.Choice.{pick}
 use Rattle.chunk.specs.declared.Refusal.TheVariants.{BadRecord}
 use Rattle.chunk.specs.Refusals.{Answer, check}
@@ -9,8 +9,6 @@ use Rattle.bext.specs.Records.{Whole}
 use Rattle.bext.specs.Writing.{bext_out}
 use Rattle.chna.specs.Records.{chna_from}
 use Rattle.words.specs.Answers.{WritesOut}
-use Rattle.records.specs.declared.Given.{Given}
-use Rattle.records.specs.declared.Given.TheVariants as words
 
 -- nine words: payload size, tag, channels, rate, bytes a second, block, bits, valid bits, channel mask
 unfoldable pub format_of : List ℕ → Format
@@ -27,9 +25,10 @@ format_of w =
       mask = get_or w 8 0;
     }
 
-unfoldable pub given_in : List ℕ → Given
+-- the record, where the words are nine
+unfoldable pub given_in : List ℕ → Option Format
 unfolding pick
-given_in w = pick (eqb (length w) 9) (words.Nine (format_of w)) words.Other
+given_in w = pick (eqb (length w) 9) (Some (format_of w)) None
 
 -- what is written of the format record in these words; 16 unless they are nine
 unfoldable pub of_nine : List ℕ → (Format → Answer (List ℕ)) → Answer (List ℕ)

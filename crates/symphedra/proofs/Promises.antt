@@ -11,6 +11,7 @@ use lib.ListN.{length, take, get_or, length-take, replicate}
 use lib.Seq.{sets}
 use lib.Dec.{eqb, leb}
 use borrow.Author.Tests.{le-leb, eqb-true}
+use Rattle.std.proofs.Common.{Option}
 use Rattle.le.specs.Number.{Bytes}
 use Rattle.le.specs.Choice.{pick}
 use Rattle.chunk.specs.declared.Entry.{Entry}
@@ -18,16 +19,12 @@ use Rattle.chunk.specs.declared.Source.{Source}
 use Rattle.chunk.specs.declared.Source.TheVariants.{Own, DataSize, EntryAt}
 use Rattle.chunk.specs.declared.Refusal.{Refusal}
 use Rattle.chunk.specs.declared.Refusal.TheVariants.{BadFmt, RaggedAudio, BadRecord, ShortOutput, StaleListing}
-use Rattle.chunk.specs.declared.Verdict.{Verdict}
-use Rattle.chunk.specs.declared.Verdict.TheVariants.{Accepted, Refused}
-use Rattle.chunk.specs.Refusals.{refusal_number, verdict_number, verdict_of, Answer, refused, given}
+use Rattle.chunk.specs.Refusals.{refusal_number, number_of, verdict_of, Answer, Err, Ok}
 use Rattle.chunk.specs.Names.{DATA}
 use Rattle.chunk.specs.Sources.{source_number, source_of}
 use Rattle.chunk.specs.Tables.{all_words, tabled, row_in, WORDS}
 use Rattle.chunk.specs.Walks.{Walked}
-use Rattle.chunk.specs.declared.Written.{Written}
-use Rattle.chunk.specs.declared.Written.TheVariants as written
-use Rattle.chunk.specs.Writes.{written_of, written_number}
+use Rattle.chunk.specs.Writes.{written_of}
 use Rattle.chunk.proofs.Checks.{given-inj, refused-inj, refused-given, pick_true, check-given, check-true}
 use Rattle.chunk.proofs.Sources.{source-back, number-back}
 use Rattle.chunk.proofs.Laid.{row-size}
@@ -36,23 +33,19 @@ use Rattle.chunk.proofs.Outputs.{puts-front}
 use Rattle.form.specs.declared.Form.{Form}
 use Rattle.form.specs.declared.Ds64.{Ds64}
 use Rattle.form.specs.declared.Form.TheVariants.{Riff}
-use Rattle.fmt.specs.declared.Reading as fmt
-use Rattle.fmt.specs.declared.Reading.TheVariants as fmt-reading
 use Rattle.fmt.specs.declared.Format.{Format}
 use Rattle.fmt.specs.Writing.{format_out}
 use Rattle.fmt.proofs.RoundTrip.{reads-back as fmt-reads-back, writes-back as fmt-writes-back}
-use Rattle.fmt.specs.Formats.{format_in, read_as as fmtRead, fmt_number, fmt_values}
-use Rattle.bext.specs.declared.Reading as bext
-use Rattle.bext.specs.declared.Reading.TheVariants as bext-reading
-use Rattle.bext.specs.Records.{Whole, bext_in, numbers_of, read_as as bextRead, bext_number, bext_values}
+use Rattle.fmt.specs.Formats.{format_in, fmt_values}
+use Rattle.bext.specs.declared.Bext.{Bext}
+use Rattle.bext.specs.Records.{Whole, bext_in, numbers_of, read_as as bextRead, bext_values}
 use Rattle.bext.specs.Slices.{parts_in}
 use Rattle.bext.proofs.RoundTrip.{reads-back as bext-reads-back, writes-back as bext-writes-back}
 use Rattle.bext.proofs.Held.{parts_are, accepted-long, stand}
-use Rattle.chna.specs.declared.Reading as chna
-use Rattle.chna.specs.declared.Reading.TheVariants as chna-reading
+use Rattle.chna.specs.declared.Chna.{Chna}
 use Rattle.chna.proofs.RoundTrip.{bytes-read-back as chna-reads-back, read-then-written as chna-again-out}
 use Rattle.chna.proofs.Pads.{zeroed-length}
-use Rattle.chna.specs.Records.{chna_in, pads_zeroed, read_as as chnaRead, chna_number, chna_values, whole_of}
+use Rattle.chna.specs.Records.{chna_in, pads_zeroed, read_as as chnaRead, chna_values, whole_of}
 use Rattle.truesize.specs.Sizes.{Ds64Entry, entries_of}
 use Rattle.truesize.specs.Told.{Marks}
 use Rattle.listing.specs.Listings.{Listing, listing}
@@ -67,9 +60,7 @@ use Rattle.wave.proofs.Judgements.{scan-listing}
 use Rattle.wave.proofs.Freshness.{fresh-says, decides}
 use Rattle.wave.proofs.FirstHalf.{says-own, list-half, first-half}
 use Rattle.wave.proofs.AcceptsExactly.{lists-exactly, accepts-exactly}
-use Rattle.samples.specs.declared.Samples.{Samples}
-use Rattle.samples.specs.declared.Samples.TheVariants as samples
-use Rattle.samples.specs.Counts.{samples_of, samples_number, samples_values}
+use Rattle.samples.specs.Counts.{samples_of, samples_values}
 use Rattle.upgrade.specs.declared.Target.{Target}
 use Rattle.upgrade.specs.Upgrades.{upgraded}
 use Rattle.upgrade.specs.Words.{file_after}
@@ -101,98 +92,71 @@ numbered-answer least n new w r w' h a = cases (leb least (length w)) h a.return
     cases true (inr (x, e)) f = inr (x, f ∙ e)
     cases false h f = inr (ShortOutput, f)
 
-numbered-verdict : (v : Verdict) → Numbered (verdict_number v)
+numbered : {A : Type 0} (x : Answer A) → Numbered (number_of x)
 unfolding Numbered
-numbered-verdict Accepted = inl refl
-numbered-verdict (Refused x) = inr (x, refl)
-
-numbered-samples : (x : Samples) → Numbered (samples_number x)
-unfolding Numbered samples_number
-numbered-samples (samples.Count n) = inl refl
-numbered-samples samples.None = inl refl
-numbered-samples (samples.Refused x) = inr (x, refl)
-
-numbered-fmt : (x : fmt.Reading) → Numbered (fmt_number x)
-unfolding Numbered fmt_number
-numbered-fmt (fmt-reading.Record f) = inl refl
-numbered-fmt (fmt-reading.Refused x) = inr (x, refl)
-
-numbered-bext : (x : bext.Reading) → Numbered (bext_number x)
-unfolding Numbered bext_number
-numbered-bext (bext-reading.Record f) = inl refl
-numbered-bext (bext-reading.Refused x) = inr (x, refl)
-
-numbered-chna : (x : chna.Reading) → Numbered (chna_number x)
-unfolding Numbered chna_number
-numbered-chna (chna-reading.Record f) = inl refl
-numbered-chna (chna-reading.Refused x) = inr (x, refl)
-
-numbered-written : (x : Written) → Numbered (written_number x)
-unfolding Numbered written_number
-numbered-written (written.Bytes n) = inl refl
-numbered-written (written.Refused x) = inr (x, refl)
+numbered (Ok a) = inl refl
+numbered (Err x) = inr (x, refl)
 
 numbered-as : (r n : ℕ) → r ≡ n → Numbered n → Numbered r
 numbered-as r n e h = subst Numbered (sym e) h
 
 -- a refused scan has no row
-no_rows : (x : Answer Scan) (w : List ℕ) (r : ℕ) → WORDS ≤ length w → r ≡ verdict_number (verdict_of x) → (r ≡ 0 → ⊥)
+no_rows : (x : Answer Scan) (w : List ℕ) (r : ℕ) → WORDS ≤ length w → r ≡ number_of (verdict_of x) → (r ≡ 0 → ⊥)
     → tabled (rows_of x) w ≡ sets w 0 (0 ∷ [])
 unfolding verdict_of rows_of tabled all_words
-no_rows (refused q) [] r l e h = absurd (omega (arith, l))
-no_rows (refused q) (v ∷ w) r l e h = refl
-no_rows (given a) w r l e h = absurd (h e)
+no_rows (Err q) [] r l e h = absurd (omega (arith, l))
+no_rows (Err q) (v ∷ w) r l e h = refl
+no_rows (Ok a) w r l e h = absurd (h e)
 
 -- nor has a refused listing
-no_list : (x : Answer Listing) (w : List ℕ) (r : ℕ) → WORDS ≤ length w → r ≡ verdict_number (verdict_of x) → (r ≡ 0 → ⊥)
+no_list : (x : Answer Listing) (w : List ℕ) (r : ℕ) → WORDS ≤ length w → r ≡ number_of (verdict_of x) → (r ≡ 0 → ⊥)
     → tabled (listed_rows x) w ≡ sets w 0 (0 ∷ [])
 unfolding verdict_of listed_rows tabled all_words
-no_list (refused q) [] r l e h = absurd (omega (arith, l))
-no_list (refused q) (v ∷ w) r l e h = refl
-no_list (given a) w r l e h = absurd (h e)
+no_list (Err q) [] r l e h = absurd (omega (arith, l))
+no_list (Err q) (v ∷ w) r l e h = refl
+no_list (Ok a) w r l e h = absurd (h e)
 
 -- a refused count or reader has zeros
-zeros-samples : (x : Samples) (r : ℕ) → r ≡ samples_number x → (r ≡ 0 → ⊥) → samples_values x ≡ replicate 2 0
-unfolding samples_number samples_values
-zeros-samples (samples.Count n) r e h = absurd (h e)
-zeros-samples samples.None r e h = absurd (h e)
-zeros-samples (samples.Refused x) r e h = refl
+zeros-samples : (x : Answer (Option ℕ)) (r : ℕ) → r ≡ number_of x → (r ≡ 0 → ⊥) → samples_values x ≡ replicate 2 0
+unfolding samples_values
+zeros-samples (Ok n) r e h = absurd (h e)
+zeros-samples (Err x) r e h = refl
 
-zeros-fmt : (x : fmt.Reading) (r : ℕ) → r ≡ fmt_number x → (r ≡ 0 → ⊥) → fmt_values x ≡ replicate 9 0
-unfolding fmt_number fmt_values
-zeros-fmt (fmt-reading.Record f) r e h = absurd (h e)
-zeros-fmt (fmt-reading.Refused x) r e h = refl
+zeros-fmt : (x : Answer Format) (r : ℕ) → r ≡ number_of x → (r ≡ 0 → ⊥) → fmt_values x ≡ replicate 9 0
+unfolding fmt_values
+zeros-fmt (Ok f) r e h = absurd (h e)
+zeros-fmt (Err x) r e h = refl
 
-zeros-bext : (x : bext.Reading) (r : ℕ) → r ≡ bext_number x → (r ≡ 0 → ⊥) → bext_values x ≡ replicate 8 0
-unfolding bext_number bext_values
-zeros-bext (bext-reading.Record f) r e h = absurd (h e)
-zeros-bext (bext-reading.Refused x) r e h = refl
+zeros-bext : (x : Answer Bext) (r : ℕ) → r ≡ number_of x → (r ≡ 0 → ⊥) → bext_values x ≡ replicate 8 0
+unfolding bext_values
+zeros-bext (Ok f) r e h = absurd (h e)
+zeros-bext (Err x) r e h = refl
 
-zeros-chna : (x : chna.Reading) (r : ℕ) → r ≡ chna_number x → (r ≡ 0 → ⊥) → chna_values x ≡ replicate 3 0
-unfolding chna_number chna_values
-zeros-chna (chna-reading.Record f) r e h = absurd (h e)
-zeros-chna (chna-reading.Refused x) r e h = refl
+zeros-chna : (x : Answer Chna) (r : ℕ) → r ≡ number_of x → (r ≡ 0 → ⊥) → chna_values x ≡ replicate 3 0
+unfolding chna_values
+zeros-chna (Ok f) r e h = absurd (h e)
+zeros-chna (Err x) r e h = refl
 
-kept : (x : Answer (List ℕ)) (s : List ℕ) (r : ℕ) → r ≡ verdict_number (verdict_of x) → (r ≡ 0 → ⊥) → file_after s x ≡ s
+kept : (x : Answer (List ℕ)) (s : List ℕ) (r : ℕ) → r ≡ number_of (verdict_of x) → (r ≡ 0 → ⊥) → file_after s x ≡ s
 unfolding verdict_of file_after
-kept (refused q) s r e h = refl
-kept (given u) s r e h = absurd (h e)
+kept (Err q) s r e h = refl
+kept (Ok u) s r e h = absurd (h e)
 
 pub promise-1 : Promise1
 promise-1 =
     record {
-      scan_numbered = λ s w r w' a. numbered-answer _ _ _ _ _ _ (numbered-verdict (verdict_of (scan s))) a;
-      list_numbered = λ s w r w' a. numbered-answer _ _ _ _ _ _ (numbered-verdict (verdict_of (listing s))) a;
-      judge_numbered = λ s w r a. numbered-as r _ a (numbered-verdict (verdict_of (judgement s w)));
-      walk_numbered = λ s w r w' a. numbered-answer _ _ _ _ _ _ (numbered-verdict (walk32 s).end) a;
-      count_numbered = λ s w r w' a. numbered-answer _ _ _ _ _ _ (numbered-samples (samples_of s)) a;
-      upgrade_numbered = λ t s r u a. numbered-as r _ a.number (numbered-verdict (verdict_of (upgraded t s)));
-      fmt_numbered = λ p w r w' a. numbered-answer _ _ _ _ _ _ (numbered-fmt (fmtRead (format_in p))) a;
-      bext_numbered = λ p w r w' a. numbered-answer _ _ _ _ _ _ (numbered-bext (bextRead (bext_in p))) a;
-      chna_numbered = λ channels p w r w' a. numbered-answer _ _ _ _ _ _ (numbered-chna (chnaRead (chna_in channels p))) a;
-      parts_numbered = λ p w r w' a. numbered-answer _ _ _ _ _ _ (numbered-verdict Accepted) a;
-      entry_numbered = λ i p w r w' a. numbered-answer _ _ _ _ _ _ (numbered-verdict Accepted) a;
-      write_numbered = λ a out w r out' w' t. numbered-as r _ t.number (numbered-written (written_of (counted out w a)));
+      scan_numbered = λ s w r w' a. numbered-answer _ _ _ _ _ _ (numbered (verdict_of (scan s))) a;
+      list_numbered = λ s w r w' a. numbered-answer _ _ _ _ _ _ (numbered (verdict_of (listing s))) a;
+      judge_numbered = λ s w r a. numbered-as r _ a (numbered (verdict_of (judgement s w)));
+      walk_numbered = λ s w r w' a. numbered-answer _ _ _ _ _ _ (numbered (walk32 s).end) a;
+      count_numbered = λ s w r w' a. numbered-answer _ _ _ _ _ _ (numbered (samples_of s)) a;
+      upgrade_numbered = λ t s r u a. numbered-as r _ a.number (numbered (verdict_of (upgraded t s)));
+      fmt_numbered = λ p w r w' a. numbered-answer _ _ _ _ _ _ (numbered (format_in p)) a;
+      bext_numbered = λ p w r w' a. numbered-answer _ _ _ _ _ _ (numbered (bextRead (bext_in p))) a;
+      chna_numbered = λ channels p w r w' a. numbered-answer _ _ _ _ _ _ (numbered (chnaRead (chna_in channels p))) a;
+      parts_numbered = λ p w r w' a. numbered-answer _ _ _ _ _ _ (numbered {A = ℕ} (Ok 0)) a;
+      entry_numbered = λ i p w r w' a. numbered-answer _ _ _ _ _ _ (numbered {A = ℕ} (Ok 0)) a;
+      write_numbered = λ a out w r out' w' t. numbered-as r _ t.number (numbered (written_of (counted out w a)));
       scan_refused = λ s w r w' l a h. let e = enough _ _ _ w r w' l a in e.1 ∙ no_rows (scan s) w r l e.0 h;
       list_refused = λ s w r w' l a h. let e = enough _ _ _ w r w' l a in e.1 ∙ no_list (listing s) w r l e.0 h;
       count_refused = λ s w r w' l a h. let e = enough _ _ _ w r w' l a in e.1 ∙ ap (sets w 0) (zeros-samples _ r e.0 h);
@@ -207,7 +171,7 @@ promise-1 =
 -- a scan that returns 0
 record Scanned (s w w' : List ℕ) : Type 0 where
   by : Scan
-  is : scan s ≡ given by
+  is : scan s ≡ Ok by
   table : w' ≡ tabled by.rows w
 
 scanned : (s w w' : List ℕ) → Scans s w 0 w' → Scanned s w w'
@@ -218,23 +182,23 @@ scanned s w w' a =
     record { by = x.0; is = x.1; table = g.words ∙ ap (λ (y : Answer Scan). tabled (rows_of y) w) x.1 }
 
 -- the table is that of the scan, which is one
-scan-table : (s w w' : List ℕ) (a : Scan) → Scans s w 0 w' → scan s ≡ given a → w' ≡ tabled a.rows w
+scan-table : (s w w' : List ℕ) (a : Scan) → Scans s w 0 w' → scan s ≡ Ok a → w' ≡ tabled a.rows w
 scan-table s w w' a h e =
     let x = scanned s w w' h in
     x.table ∙ ap (λ (y : Scan). tabled y.rows w) (given-inj _ _ (sym x.is ∙ e))
 
 -- what a scan returns of a file that is known to be accepted, and a walk of what is known of it
-scan-is : (s v : List ℕ) (q : ℕ) (v' : List ℕ) (a : Scan) → scan s ≡ given a → WORDS ≤ length v → Scans s v q v'
+scan-is : (s v : List ℕ) (q : ℕ) (v' : List ℕ) (a : Scan) → scan s ≡ Ok a → WORDS ≤ length v → Scans s v q v'
     → (q ≡ 0) × (v' ≡ tabled a.rows v)
 unfolding rows_of verdict_of
 scan-is s v q v' a e l h =
     let g = enough _ _ _ v q v' l h in
-    (g.0 ∙ ap (λ (y : Answer Scan). verdict_number (verdict_of y)) e, g.1 ∙ ap (λ (y : Answer Scan). tabled (rows_of y) v) e)
+    (g.0 ∙ ap (λ (y : Answer Scan). number_of (verdict_of y)) e, g.1 ∙ ap (λ (y : Answer Scan). tabled (rows_of y) v) e)
 
 -- the same of a listing
 record Listed (s w w' : List ℕ) : Type 0 where
   by : Listing
-  is : listing s ≡ given by
+  is : listing s ≡ Ok by
   table : w' ≡ tabled by.rows w
 
 listed-by : (s w w' : List ℕ) → Lists s w 0 w' → Listed s w w'
@@ -244,17 +208,17 @@ listed-by s w w' a =
     let x = accepted (listing s) g.number in
     record { by = x.0; is = x.1; table = g.words ∙ ap (λ (y : Answer Listing). tabled (listed_rows y) w) x.1 }
 
-list-table : (s w w' : List ℕ) (l : Listing) → Lists s w 0 w' → listing s ≡ given l → w' ≡ tabled l.rows w
+list-table : (s w w' : List ℕ) (l : Listing) → Lists s w 0 w' → listing s ≡ Ok l → w' ≡ tabled l.rows w
 list-table s w w' l h e =
     let x = listed-by s w w' h in
     x.table ∙ ap (λ (y : Listing). tabled y.rows w) (given-inj _ _ (sym x.is ∙ e))
 
-list-is : (s v : List ℕ) (q : ℕ) (v' : List ℕ) (l : Listing) → listing s ≡ given l → WORDS ≤ length v → Lists s v q v'
+list-is : (s v : List ℕ) (q : ℕ) (v' : List ℕ) (l : Listing) → listing s ≡ Ok l → WORDS ≤ length v → Lists s v q v'
     → (q ≡ 0) × (v' ≡ tabled l.rows v)
 unfolding listed_rows verdict_of
 list-is s v q v' a e l h =
     let g = enough _ _ _ v q v' l h in
-    (g.0 ∙ ap (λ (y : Answer Listing). verdict_number (verdict_of y)) e, g.1 ∙ ap (λ (y : Answer Listing). tabled (listed_rows y) v) e)
+    (g.0 ∙ ap (λ (y : Answer Listing). number_of (verdict_of y)) e, g.1 ∙ ap (λ (y : Answer Listing). tabled (listed_rows y) v) e)
 
 -- ---- demand 2
 
@@ -276,12 +240,12 @@ lists s w r w' b l h = (
 
 module _ (s w : List ℕ) (p q : ℕ) (u : List ℕ) (l : WORDS ≤ length w) (h : Lists s w p u) (j : Judges s u q) where
   -- what the listing has stored is fresh, so the judgement ends as the scan does
-  judged-scan : p ≡ 0 → q ≡ verdict_number (verdict_of (scan s))
+  judged-scan : p ≡ 0 → q ≡ number_of (verdict_of (scan s))
   judged-scan z =
       let x = listed-by s w u (subst (λ (n : ℕ). Lists s w n u) z h) in
       let f = (decides s w).listed x.by x.is in
-      j ∙ ap (λ (t : List ℕ). verdict_number (verdict_of (judgement s t))) x.table
-      ∙ ap verdict_number ((decides s (tabled x.by.rows w)).fresh f)
+      j ∙ ap (λ (t : List ℕ). number_of (verdict_of (judgement s t))) x.table
+      ∙ ap number_of ((decides s (tabled x.by.rows w)).fresh f)
 
   turn : (r : ℕ) (w' : List ℕ) → Scans s w r w' → InTurn r p q w' u
   unfolding verdict_of
@@ -297,10 +261,10 @@ module _ (s w : List ℕ) (p q : ℕ) (u : List ℕ) (l : WORDS ≤ length w) (h
             x.table ∙ sym k.1;
       }
     where
-      refused-same : (x : Answer Listing) → listing s ≡ x → (verdict_number (verdict_of x) ≡ 0 → ⊥)
-          → verdict_number (verdict_of (scan s)) ≡ verdict_number (verdict_of x)
-      refused-same (refused y) e n = ap (λ (z : Answer Scan). verdict_number (verdict_of z)) (scan-listing s y e)
-      refused-same (given y) e n = absurd (n refl)
+      refused-same : (x : Answer Listing) → listing s ≡ x → (number_of (verdict_of x) ≡ 0 → ⊥)
+          → number_of (verdict_of (scan s)) ≡ number_of (verdict_of x)
+      refused-same (Err y) e n = ap (λ (z : Answer Scan). number_of (verdict_of z)) (scan-listing s y e)
+      refused-same (Ok y) e n = absurd (n refl)
 
   both : Bytes s → ((p ≡ 0) × (q ≡ 0)) ↔ ((a : Scan) × GoodFile s a)
   unfolding AcceptsExactly verdict_of
@@ -309,34 +273,34 @@ module _ (s w : List ℕ) (p q : ℕ) (u : List ℕ) (l : WORDS ≤ length w) (h
     (λ g.
         let e = (accepts-exactly s b g.0).1 g.1 in
         let k = list-is s w p u (listing_of g.0) (scan-listed s g.0 e) l h in
-        (k.0, judged-scan k.0 ∙ ap (λ (x : Answer Scan). verdict_number (verdict_of x)) e)),
+        (k.0, judged-scan k.0 ∙ ap (λ (x : Answer Scan). number_of (verdict_of x)) e)),
   )
 
 -- ---- 24
 
-judge-number : (x : Answer Format) → (r : ℕ) → r ≡ verdict_number (verdict_of x)
-    → ((y : Refusal) → x ≡ refused y → (y ≡ StaleListing) ⊎ (y ≡ BadFmt) ⊎ (y ≡ RaggedAudio))
-    → ((r ≡ 0) ⊎ (r ≡ 24) ⊎ (r ≡ 11) ⊎ (r ≡ 12)) × ((r ≡ 24) ↔ (x ≡ refused StaleListing))
+judge-number : (x : Answer Format) → (r : ℕ) → r ≡ number_of (verdict_of x)
+    → ((y : Refusal) → x ≡ Err y → (y ≡ StaleListing) ⊎ (y ≡ BadFmt) ⊎ (y ≡ RaggedAudio))
+    → ((r ≡ 0) ⊎ (r ≡ 24) ⊎ (r ≡ 11) ⊎ (r ≡ 12)) × ((r ≡ 24) ↔ (x ≡ Err StaleListing))
 unfolding verdict_of
-judge-number (given f) r e k = (inl e, ((λ z. absurd (omega (arith, e, z))), λ z. absurd (refused-given StaleListing f (sym z))))
-judge-number (refused y) r e k = go (k y refl)
+judge-number (Ok f) r e k = (inl e, ((λ z. absurd (omega (arith, e, z))), λ z. absurd (refused-given StaleListing f (sym z))))
+judge-number (Err y) r e k = go (k y refl)
   where
     number : (z : Refusal) → y ≡ z → r ≡ refusal_number z
     number z p = e ∙ ap refusal_number p
 
-    other : (z : Refusal) → y ≡ z → (refusal_number z ≡ 24 → ⊥) → (r ≡ 24) ↔ (◌≡◌ {A = Answer Format} (refused y) (refused StaleListing))
+    other : (z : Refusal) → y ≡ z → (refusal_number z ≡ 24 → ⊥) → (r ≡ 24) ↔ (◌≡◌ {A = Answer Format} (Err y) (Err StaleListing))
     other z p n = (
       (λ q. absurd (n (sym (number z p) ∙ q))),
       (λ q. absurd (n (sym (ap refusal_number p) ∙ ap refusal_number (refused-inj y StaleListing q)))),
     )
 
     go : (y ≡ StaleListing) ⊎ (y ≡ BadFmt) ⊎ (y ≡ RaggedAudio)
-        → ((r ≡ 0) ⊎ (r ≡ 24) ⊎ (r ≡ 11) ⊎ (r ≡ 12)) × ((r ≡ 24) ↔ (◌≡◌ {A = Answer Format} (refused y) (refused StaleListing)))
-    go (inl p) = (inr (inl (number StaleListing p)), ((λ q. ap refused p), λ q. number StaleListing p))
+        → ((r ≡ 0) ⊎ (r ≡ 24) ⊎ (r ≡ 11) ⊎ (r ≡ 12)) × ((r ≡ 24) ↔ (◌≡◌ {A = Answer Format} (Err y) (Err StaleListing)))
+    go (inl p) = (inr (inl (number StaleListing p)), ((λ q. ap Err p), λ q. number StaleListing p))
     go (inr (inl p)) = (inr (inr (inl (number BadFmt p))), other BadFmt p (λ z. omega (arith, z)))
     go (inr (inr p)) = (inr (inr (inr (number RaggedAudio p))), other RaggedAudio p (λ z. omega (arith, z)))
 
-judges : (s w : List ℕ) (r : ℕ) → Judges s w r → ((r ≡ 0) ⊎ (r ≡ 24) ⊎ (r ≡ 11) ⊎ (r ≡ 12)) × ((r ≡ 24) ↔ (judgement s w ≡ refused StaleListing))
+judges : (s w : List ℕ) (r : ℕ) → Judges s w r → ((r ≡ 0) ⊎ (r ≡ 24) ⊎ (r ≡ 11) ⊎ (r ≡ 12)) × ((r ≡ 24) ↔ (judgement s w ≡ Err StaleListing))
 judges s w r j = judge-number (judgement s w) r j (decides s w).others
 
 stale : (s w : List ℕ) (r : ℕ) → Judges s w r → (r ≡ 24) ↔ (FreshListing s w → ⊥)
@@ -346,7 +310,7 @@ stale s w r j =
     ((λ z. d.0 (k.0 z)), λ n. k.1 (d.1 n))
 
 -- nine words are their format record's
-nine_words : (w : List ℕ) → length w ≡ 9 → fmt_values (fmt-reading.Record (format_of w)) ≡ w
+nine_words : (w : List ℕ) → length w ≡ 9 → fmt_values (Ok (format_of w)) ≡ w
 unfolding fmt_values format_of
 nine_words ([]) l = absurd (omega (arith, l))
 nine_words (a ∷ []) l = absurd (omega (arith, l))
@@ -361,30 +325,29 @@ nine_words (a ∷ b ∷ c ∷ d ∷ e ∷ f ∷ g ∷ h ∷ i ∷ []) l = refl
 nine_words (a ∷ b ∷ c ∷ d ∷ e ∷ f ∷ g ∷ h ∷ i ∷ j ∷ k) l = absurd (omega (arith, l))
 
 module _ (f out w out' w' : List ℕ) (h : WritesFmt f out w 0 out' w') where
-  fmt-given : (eqb (length f) 9 ≡ true) × (format_out (format_of f) ≡ given (written_in out' w'))
+  fmt-given : (eqb (length f) 9 ≡ true) × (format_out (format_of f) ≡ Ok (written_in out' w'))
   unfolding of_nine written_in
   fmt-given = check-given _ _ _ _ (wrote-out _ out w out' w' h).is_given
 
   fmt_back : (v : List ℕ) (r : ℕ) (v' : List ℕ) → 9 ≤ length v → ReadsFmt (written_in out' w') v r v' → (r ≡ 0) × (v' ≡ sets v 0 f)
-  unfolding fmtRead fmt_number
   fmt_back v r v' l k =
       let g = enough _ _ _ v r v' l k in
       let e = fmt-reads-back (format_of f) (written_in out' w') fmt-given.1 in (
-        g.0 ∙ ap (λ (x : Answer Format). fmt_number (fmtRead x)) e,
-        g.1 ∙ ap (λ (x : Answer Format). sets v 0 (fmt_values (fmtRead x))) e ∙ ap (sets v 0) (nine_words f (eqb-true (length f) 9 fmt-given.0)),
+        g.0 ∙ ap (λ (x : Answer Format). number_of x) e,
+        g.1 ∙ ap (λ (x : Answer Format). sets v 0 (fmt_values x)) e ∙ ap (sets v 0) (nine_words f (eqb-true (length f) 9 fmt-given.0)),
       )
 
 module _ (b : Whole) (out w out' w' : List ℕ) (h : WritesBext b out w 0 out' w') where
-  bext_back : bext_in (written_in out' w') ≡ given b
+  bext_back : bext_in (written_in out' w') ≡ Ok b
   unfolding written_in
   bext_back = bext-reads-back b _ (wrote-out _ out w out' w' h).is_given
 
   bext_words : (v : List ℕ) (r : ℕ) (v' : List ℕ) → 8 ≤ length v → ReadsBext (written_in out' w') v r v'
-      → (r ≡ 0) × (v' ≡ sets v 0 (bext_values (bext-reading.Record (numbers_of b))))
-  unfolding bextRead bext_number
+      → (r ≡ 0) × (v' ≡ sets v 0 (bext_values (Ok (numbers_of b))))
+  unfolding bextRead
   bext_words v r v' l k =
       let g = enough _ _ _ v r v' l k in (
-        g.0 ∙ ap (λ (x : Answer Whole). bext_number (bextRead x)) bext_back,
+        g.0 ∙ ap (λ (x : Answer Whole). number_of (bextRead x)) bext_back,
         g.1 ∙ ap (λ (x : Answer Whole). sets v 0 (bext_values (bextRead x))) bext_back,
       )
 
@@ -404,19 +367,18 @@ module _ (b : Whole) (out w out' w' : List ℕ) (h : WritesBext b out w 0 out' w
 
 -- what a fmt reader that returns 0 leaves is its record's words
 module _ (p v v' : List ℕ) (h : ReadsFmt p v 0 v') where
-  fmt-read : (f : Format) × (format_in p ≡ given f)
-  unfolding fmtRead fmt_number
+  fmt-read : (f : Format) × (format_in p ≡ Ok f)
   fmt-read = cases (format_in p) refl (good _ _ _ v v' h).number
     where
-      cases : (x : Answer Format) → format_in p ≡ x → fmt_number (fmtRead x) ≡ 0 → (f : Format) × (format_in p ≡ given f)
-      cases (refused q) e z = absurd (omega (arith, z, refusal-number q))
-      cases (given f) e z = (f, e)
+      cases : (x : Answer Format) → format_in p ≡ x → number_of x ≡ 0 → (f : Format) × (format_in p ≡ Ok f)
+      cases (Err q) e z = absurd (omega (arith, z, refusal-number q))
+      cases (Ok f) e z = (f, e)
 
-  fmt-words : take 9 v' ≡ fmt_values (fmt-reading.Record fmt-read.0)
-  unfolding fmtRead fmt_values
+  fmt-words : take 9 v' ≡ fmt_values (Ok fmt-read.0)
+  unfolding fmt_values
   fmt-words =
       let g = good _ _ _ v v' h in
-      ap (take 9) (g.words ∙ ap (λ (x : Answer Format). sets v 0 (fmt_values (fmtRead x))) fmt-read.1 ∙ puts-front v (fmt_values (fmt-reading.Record fmt-read.0)) g.long)
+      ap (take 9) (g.words ∙ ap (λ (x : Answer Format). sets v 0 (fmt_values x)) fmt-read.1 ∙ puts-front v (fmt_values (Ok fmt-read.0)) g.long)
 
   fmt-record : format_of (take 9 v') ≡ fmt-read.0
   unfolding format_of fmt_values
@@ -429,14 +391,14 @@ module _ (p v v' : List ℕ) (h : ReadsFmt p v 0 v') where
   fmt_again out w r out' w' b product room word t =
       let f = fmt-read.0 in
       let rate : f.byterate ≡ f.rate * f.block = subst (λ (x : Format). x.byterate ≡ x.rate * x.block) fmt-record product in
-      let all : of_nine (take 9 v') format_out ≡ given p =
+      let all : of_nine (take 9 v') format_out ≡ Ok p =
       check-true (eqb (length (take 9 v')) 9) BadRecord _ (ap (λ (l : List ℕ). eqb (length l) 9) fmt-words)
       ∙ ap format_out fmt-record
       ∙ fmt-writes-back p f b fmt-read.1 rate in
       writes-given _ p out w r out' w' all room word t
 
 chna_back : (channels tracks uids : ℕ) (entries out w out' w' : List ℕ) → WritesChna channels tracks uids entries out w 0 out' w'
-    → chna_in channels (written_in out' w') ≡ given (whole_of tracks uids entries)
+    → chna_in channels (written_in out' w') ≡ Ok (whole_of tracks uids entries)
 unfolding written_in
 chna_back channels tracks uids entries out w out' w' h =
     chna-reads-back channels tracks uids entries _ (wrote-out _ out w out' w' h).is_given
@@ -473,7 +435,7 @@ fourth-word s d ks e k n m =
     told : (x : Source) → k ≡ source_number x → e.source ≡ x
     told x z = sym (source-back e.source) ∙ ap source_of (sym n ∙ z) ∙ source-back x
 
-fourth-words : (s w w' : List ℕ) (l : Listing) → w' ≡ tabled l.rows w → listing s ≡ given l → (i : ℕ) → i < get_or w' 0 0
+fourth-words : (s w w' : List ℕ) (l : Listing) → w' ≡ tabled l.rows w → listing s ≡ Ok l → (i : ℕ) → i < get_or w' 0 0
     → FourthWord s (entries_of l.head s) (row_in (1 + 4 * i) w') (get_or w' (1 + 4 * i + 3) 0)
 fourth-words s w w' l t e i k =
     let r = table-row l.rows w w' t i k in
@@ -481,7 +443,7 @@ fourth-words s w w' l t e i k =
     (fourth-word s l.head.ds64 (entries_of l.head s) r.0 _
     (fourth (1 + 4 * i) w' ∙ ap (λ (y : Entry). source_number y.source) r.2) ((list-tables s l e).marks r.0 r.1))
 
-sources : (s w w' : List ℕ) (a : Scan) → Scans s w 0 w' → scan s ≡ given a → (i : ℕ) → i < get_or w' 0 0
+sources : (s w w' : List ℕ) (a : Scan) → Scans s w 0 w' → scan s ≡ Ok a → (i : ℕ) → i < get_or w' 0 0
     → FourthWord s (entries_of a.head s) (row_in (1 + 4 * i) w') (get_or w' (1 + 4 * i + 3) 0)
 sources s w w' a h e i l = fourth-words s w w' (listing_of a) (scan-table s w w' a h e) (scan-listed s a e) i l
 
@@ -511,7 +473,7 @@ promise-2 =
       stale = stale;
       fresh = fresh-says;
       judges = λ s w r j. (judges s w r j).0;
-      as_scan = λ s w r f j. j ∙ ap verdict_number ((decides s w).fresh f);
+      as_scan = λ s w r f j. j ∙ ap number_of ((decides s w).fresh f);
       in_place = λ a out w out' w' h. let k = wrote-out a out w out' w' h in record { fits = k.fits; rest = k.output };
       fmt_back = fmt_back;
       bext_back = bext_back;
@@ -537,10 +499,10 @@ promise-2 =
 -- ---- demand 3
 
 walk_is : (s v : List ℕ) (q : ℕ) (v' : List ℕ) (x : Walked) → walk32 s ≡ x → WORDS ≤ length v → Walks32 s v q v'
-    → (q ≡ verdict_number x.end) × (v' ≡ tabled x.rows v)
+    → (q ≡ number_of x.end) × (v' ≡ tabled x.rows v)
 walk_is s v q v' x e l h =
     let g = enough _ _ _ v q v' l h in
-    (g.0 ∙ ap (λ (y : Walked). verdict_number y.end) e, g.1 ∙ ap (λ (y : Walked). tabled y.rows v) e)
+    (g.0 ∙ ap (λ (y : Walked). number_of y.end) e, g.1 ∙ ap (λ (y : Walked). tabled y.rows v) e)
 
 first : (s w w' v : List ℕ) (r : ℕ) (v' : List ℕ) → Scans s w 0 w' → WORDS ≤ length v → Walks32 s v r v' → WalkPromise s w w' v r v'
 first s w w' v r v' a l h =
@@ -564,13 +526,13 @@ listed s w w' v r v' a l h =
       whole = λ sized. walk_is s v r v' _ (f.whole sized) l h;
     }
 
-upgraded-0 : (t : Target) (s u : List ℕ) → Upgrades t s 0 u → upgraded t s ≡ given u
+upgraded-0 : (t : Target) (s u : List ℕ) → Upgrades t s 0 u → upgraded t s ≡ Ok u
 unfolding file_after
 upgraded-0 t s u a =
     let x = accepted (upgraded t s) (sym a.number) in
-    x.1 ∙ ap given (sym (a.bytes ∙ ap (file_after s) x.1))
+    x.1 ∙ ap Ok (sym (a.bytes ∙ ap (file_after s) x.1))
 
-module _ (t : Target) (s w w' : List ℕ) (a : Scan) (r : ℕ) (u : List ℕ) (b : Bytes s) (table : w' ≡ tabled a.rows w) (e : scan s ≡ given a) (riff : a.head.form ≡ Riff) (h : Upgrades t s r u) where
+module _ (t : Target) (s w w' : List ℕ) (a : Scan) (r : ℕ) (u : List ℕ) (b : Bytes s) (table : w' ≡ tabled a.rows w) (e : scan s ≡ Ok a) (riff : a.head.form ≡ Riff) (h : Upgrades t s r u) where
   half : upgrade.SecondHalf t s a
   half = second-half t s a b e riff
 
@@ -581,13 +543,13 @@ module _ (t : Target) (s w w' : List ℕ) (a : Scan) (r : ℕ) (u : List ℕ) (b
   unfolding verdict_of file_after
   otherwise n =
       let q = half.otherwise n in
-      (h.number ∙ ap (λ (x : Answer (List ℕ)). verdict_number (verdict_of x)) q, h.bytes ∙ ap (file_after s) q)
+      (h.number ∙ ap (λ (x : Answer (List ℕ)). number_of (verdict_of x)) q, h.bytes ∙ ap (file_after s) q)
 
   succeeds : (r ≡ 0) ↔ Reserved a.rows
   unfolding verdict_of
   succeeds = (
     (λ z. half.succeeds.0 (u, upgraded-0 t s u (subst (λ (n : ℕ). Upgrades t s n u) z h))),
-    (λ k. let g = half.succeeds.1 k in h.number ∙ ap (λ (x : Answer (List ℕ)). verdict_number (verdict_of x)) g.1),
+    (λ k. let g = half.succeeds.1 k in h.number ∙ ap (λ (x : Answer (List ℕ)). number_of (verdict_of x)) g.1),
   )
 
   second-of : UpgradePromise t s w w' a r u
@@ -604,8 +566,8 @@ module _ (t : Target) (s w w' : List ℕ) (a : Scan) (r : ℕ) (u : List ℕ) (b
             (g.0, g.1 ∙ ap (λ (x : List Entry). tabled x v) d.rows);
         count_after = λ z v q q' v' v'' k m.
             let same : samples_of u ≡ samples_of s = (done z).samples in (
-              m.returns ∙ ap (λ (x : Samples). pick (leb 2 (length v)) (samples_number x) 15) same ∙ sym k.returns,
-              m.words ∙ ap (λ (x : Samples). pick (leb 2 (length v)) (sets v 0 (samples_values x)) v) same ∙ sym k.words,
+              m.returns ∙ ap (λ (x : Answer (Option ℕ)). pick (leb 2 (length v)) (number_of x) 15) same ∙ sym k.returns,
+              m.words ∙ ap (λ (x : Answer (Option ℕ)). pick (leb 2 (length v)) (sets v 0 (samples_values x)) v) same ∙ sym k.words,
             );
         walk_after = λ z v q v' l k.
             let d = done z in

@@ -10,13 +10,12 @@ use Rattle.std.proofs.lemmas.List.Edits.{sets}
 use Rattle.le.specs.Number.{Bytes}
 use Rattle.chunk.specs.declared.Entry.{Entry}
 use Rattle.chunk.specs.declared.Refusal.{Refusal}
-use Rattle.chunk.specs.Refusals.{refusal_number, Answer, given, verdict_number, verdict_of}
+use Rattle.chunk.specs.Refusals.{refusal_number, Answer, Ok, number_of, verdict_of}
 use Rattle.chunk.specs.Names.{DATA}
 use Rattle.chunk.specs.Fields.{ONES}
 use Rattle.chunk.specs.Tables.{tabled, row_in, WORDS}
 use Rattle.form.specs.declared.Form.{Form}
 use Rattle.form.specs.declared.Form.TheVariants.{Riff}
-use Rattle.bext.specs.declared.Reading.TheVariants as bext
 use Rattle.bext.specs.Records.{Whole, bext_in, bext_values, numbers_of}
 use Rattle.bext.specs.Slices.{parts_in, Stand}
 use Rattle.chna_entry.specs.Entries.{Used, unused, used}
@@ -106,7 +105,7 @@ pub record Promise2 : Type 0 where
   pub accepts : (s w : List ℕ) (r : ℕ) (w' : List ℕ) → Bytes s → WORDS ≤ length w → Scans s w r w' → (r ≡ 0) ↔ ((a : Scan) × GoodFile s a)
   pub table : (s w : List ℕ) (w' : List ℕ) (a : Scan) → Bytes s → Scans s w 0 w' → GoodFile s a → w' ≡ tabled a.rows w
   -- and where each size came from
-  pub sources : (s w : List ℕ) (w' : List ℕ) (a : Scan) → Scans s w 0 w' → scan s ≡ given a → (i : ℕ) → i < get_or w' 0 0
+  pub sources : (s w : List ℕ) (w' : List ℕ) (a : Scan) → Scans s w 0 w' → scan s ≡ Ok a → (i : ℕ) → i < get_or w' 0 0
       → FourthWord s (entries_of a.head s) (row_in (1 + 4 * i) w') (get_or w' (1 + 4 * i + 3) 0)
   -- symphedra_scan is symphedra_list and then symphedra_judge
   pub in_turn : (s w : List ℕ) (r p q : ℕ) (w' u : List ℕ) → WORDS ≤ length w → Scans s w r w' → Lists s w p u → Judges s u q
@@ -117,24 +116,24 @@ pub record Promise2 : Type 0 where
   -- the listing accepts exactly the files of the shape that document 01 defines (wave/specs/Grammar.antt), whatever their format
   pub lists : (s w : List ℕ) (r : ℕ) (w' : List ℕ) → Bytes s → WORDS ≤ length w → Lists s w r w' → (r ≡ 0) ↔ ((l : Listing) × GoodShape s l)
   pub list_table : (s w : List ℕ) (w' : List ℕ) (l : Listing) → Bytes s → Lists s w 0 w' → GoodShape s l → w' ≡ tabled l.rows w
-  pub list_sources : (s w : List ℕ) (w' : List ℕ) (l : Listing) → Lists s w 0 w' → listing s ≡ given l → (i : ℕ) → i < get_or w' 0 0
+  pub list_sources : (s w : List ℕ) (w' : List ℕ) (l : Listing) → Lists s w 0 w' → listing s ≡ Ok l → (i : ℕ) → i < get_or w' 0 0
       → FourthWord s (entries_of l.head s) (row_in (1 + 4 * i) w') (get_or w' (1 + 4 * i + 3) 0)
   -- 24 "for a listing that isn't a fresh listing of the given file, and also where the file has no listing", exactly, and
   -- which words are one; else 11, 12 or none, the scan's own
   pub stale : (s w : List ℕ) (r : ℕ) → Judges s w r → (r ≡ 24) ↔ (FreshListing s w → ⊥)
   pub fresh : (s w : List ℕ) → FreshListing s w → FreshSays s w
   pub judges : (s w : List ℕ) (r : ℕ) → Judges s w r → (r ≡ 0) ⊎ (r ≡ 24) ⊎ (r ≡ 11) ⊎ (r ≡ 12)
-  pub as_scan : (s w : List ℕ) (r : ℕ) → FreshListing s w → Judges s w r → r ≡ verdict_number (verdict_of (scan s))
+  pub as_scan : (s w : List ℕ) (r : ℕ) → FreshListing s w → Judges s w r → r ≡ number_of (verdict_of (scan s))
   -- "What we write reads back as the records .. we gave." Every writer:
   pub in_place : (a : Answer (List ℕ)) (out w out' w' : List ℕ) → WritesOut a out w 0 out' w' → InPlace out out' w'
   -- fmt: the nine words that were given
   pub fmt_back : (f out w out' w' : List ℕ) → WritesFmt f out w 0 out' w'
       → (v : List ℕ) (r : ℕ) (v' : List ℕ) → 9 ≤ length v → ReadsFmt (written_in out' w') v r v' → (r ≡ 0) × (v' ≡ sets v 0 f)
   -- bext: the record that was given, its eight words, and its parts where they stand
-  pub bext_back : (b : Whole) (out w out' w' : List ℕ) → WritesBext b out w 0 out' w' → bext_in (written_in out' w') ≡ given b
+  pub bext_back : (b : Whole) (out w out' w' : List ℕ) → WritesBext b out w 0 out' w' → bext_in (written_in out' w') ≡ Ok b
   pub bext_words : (b : Whole) (out w out' w' : List ℕ) → WritesBext b out w 0 out' w'
       → (v : List ℕ) (r : ℕ) (v' : List ℕ) → 8 ≤ length v → ReadsBext (written_in out' w') v r v'
-      → (r ≡ 0) × (v' ≡ sets v 0 (bext_values (bext.Record (numbers_of b))))
+      → (r ≡ 0) × (v' ≡ sets v 0 (bext_values (Ok (numbers_of b))))
   pub bext_parts : (b : Whole) (out w out' w' : List ℕ) → WritesBext b out w 0 out' w'
       → (v : List ℕ) (r : ℕ) (v' : List ℕ) → 14 ≤ length v → PartsOf (written_in out' w') v r v'
       → (r ≡ 0) × (v' ≡ sets v 0 (places_of b)) × (parts_in (written_in out' w') ≡ b)
@@ -142,7 +141,7 @@ pub record Promise2 : Type 0 where
   pub parts_stand : (p : List ℕ) → Stand p
   -- chna: the counts and the entries that were given
   pub chna_back : (channels tracks uids : ℕ) (entries out w out' w' : List ℕ) → WritesChna channels tracks uids entries out w 0 out' w'
-      → chna_in channels (written_in out' w') ≡ given (whole_of tracks uids entries)
+      → chna_in channels (written_in out' w') ≡ Ok (whole_of tracks uids entries)
   pub chna_entries : (channels tracks uids : ℕ) (entries out w out' w' : List ℕ) → WritesChna channels tracks uids entries out w 0 out' w'
       → (i : ℕ) (v : List ℕ) (r : ℕ) (v' : List ℕ) → 5 ≤ length v → EntryOf i (written_in out' w') v r v'
       → (r ≡ 0) × (v' ≡ sets v 0 (entry_values (4 + i * 40) (get_or (entries_in entries) i unused)))
@@ -159,9 +158,9 @@ pub record Promise2 : Type 0 where
   pub fmt_again : (p v v' out w : List ℕ) (r : ℕ) (out' w' : List ℕ) → Bytes p → ReadsFmt p v 0 v'
       → (format_of (take 9 v')).byterate ≡ (format_of (take 9 v')).rate * (format_of (take 9 v')).block
       → length p ≤ length out → 1 ≤ length w → WritesFmt (take 9 v') out w r out' w' → (r ≡ 0) × (written_in out' w' ≡ p)
-  pub bext_again : (p out w : List ℕ) (b : Whole) (r : ℕ) (out' w' : List ℕ) → Bytes p → bext_in p ≡ given b
+  pub bext_again : (p out w : List ℕ) (b : Whole) (r : ℕ) (out' w' : List ℕ) → Bytes p → bext_in p ≡ Ok b
       → length p ≤ length out → 1 ≤ length w → WritesBext b out w r out' w' → (r ≡ 0) × (written_in out' w' ≡ p)
-  pub chna_again : (channels : ℕ) (p out w : List ℕ) (c : Chna) (r : ℕ) (out' w' : List ℕ) → Bytes p → chna_in channels p ≡ given c
+  pub chna_again : (channels : ℕ) (p out w : List ℕ) (c : Chna) (r : ℕ) (out' w' : List ℕ) → Bytes p → chna_in channels p ≡ Ok c
       → length p ≤ length out → 1 ≤ length w → WritesChna channels c.tracks c.uids (drop 4 p) out w r out' w'
       → (r ≡ 0) × (written_in out' w' ≡ pads_zeroed p)
 
@@ -209,8 +208,8 @@ pub record Promise3 : Type 0 where
   -- "The 32-bit walk is also compared with every accepted listing" (document 02), also of a file that the scan refuses; w' and
   -- the table are the listing's
   pub listed : (s w w' v : List ℕ) (r : ℕ) (v' : List ℕ) → Lists s w 0 w' → WORDS ≤ length v → Walks32 s v r v' → WalkPromise s w w' v r v'
-  pub second : (t : Target) (s w w' : List ℕ) (a : Scan) (r : ℕ) (u : List ℕ) → Bytes s → Scans s w 0 w' → scan s ≡ given a
+  pub second : (t : Target) (s w w' : List ℕ) (a : Scan) (r : ℕ) (u : List ℕ) → Bytes s → Scans s w 0 w' → scan s ≡ Ok a
       → a.head.form ≡ Riff → Upgrades t s r u → UpgradePromise t s w w' a r u
   -- and of a file that the listing and the judgement of its table accept in turn
   pub second_in_turn : (t : Target) (s w w' : List ℕ) (r : ℕ) (u : List ℕ) → Bytes s → Lists s w 0 w' → Judges s w' 0
-      → (a : Scan) × (scan s ≡ given a) × (a.head.form ≡ Riff → Upgrades t s r u → UpgradePromise t s w w' a r u)
+      → (a : Scan) × (scan s ≡ Ok a) × (a.head.form ≡ Riff → Upgrades t s r u → UpgradePromise t s w w' a r u)

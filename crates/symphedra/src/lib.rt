@@ -2,6 +2,7 @@
 //
 // A run is a pointer and a length. A number is returned: 0, or the document's number of a refusal. Where the words to
 // answer in are too few, that is 15, ahead of everything else, and no word changes.
+// Kept: a function for each name that C calls (include/symphedra.h), and words and numbers as C has them.
 #![tactic(auto)]
 
 pub mod writers;
@@ -9,63 +10,61 @@ pub mod writers;
 ghost use Rattle.records.specs.Reading.{ReadsFmt, ReadsBext, PartsOf, ReadsChna, EntryOf};
 ghost use Rattle.symphedra.specs.Exports.{Scans, Lists, Judges, Walks32, Counts, Upgrades, rf64, bw64};
 
-use samples::Samples;
 use upgrade::Target;
 
 // The table of a file's chunks, or its refusal and no chunk.
 pub fn symphedra_scan(file: &[u8], table: &mut [u64]) -> u32
     ensures { Scans file.now table.old result table.new }
 {
-    wave::scan_into(file, table).number()
+    chunk::number(&wave::scan_into(file, table))
 }
 
 // The table of a file's chunks, whatever its format; or a refusal and no chunk.
 pub fn symphedra_list(file: &[u8], table: &mut [u64]) -> u32
     ensures { Lists file.now table.old result table.new }
 {
-    wave::list_into(file, table).number()
+    chunk::number(&wave::list_into(file, table))
 }
 
 // The judgement of a file's format, over words that are to be a fresh listing of it.
 pub fn symphedra_judge(file: &[u8], table: &[u64]) -> u32
     ensures { Judges file.now table.now result }
 {
-    wave::judge(file, table).number()
+    chunk::number(&wave::judge(file, table))
 }
 
 // What the 32-bit walk shows, and its stop.
 pub fn symphedra_walk32(file: &[u8], table: &mut [u64]) -> u32
     ensures { Walks32 file.now table.old result table.new }
 {
-    wave::walk32_into(file, table).number()
+    chunk::number(&wave::walk32_into(file, table))
 }
 
 // 1 and the sample count, or two zeros.
+#[tactic(auto, unfolding(samples::specs::Counts::samples_values))]
 pub fn symphedra_sample_count(file: &[u8], out: &mut [u64]) -> u32
     ensures { Counts file.now out.old result out.new }
 {
-    match samples::sample_count(file) {
-        Samples::Count(n) => {
-            let values = [1, n];
-            words::answer(0, &values[..], out)
-        }
-        Samples::None => words::zeros(0, 2, out),
-        Samples::Refused(r) => words::zeros(r.number(), 2, out),
-    }
+    let count = samples::sample_count(file);
+    let values = match count {
+        Ok(Some(n)) => [1, n],
+        _ => [0, 0],
+    };
+    words::answer(chunk::number(&count), &values, out)
 }
 
 // Upgrades a file to RF64 in place.
 pub fn symphedra_upgrade_rf64(file: &mut [u8]) -> u32
     ensures { Upgrades rf64 file.old result file.new }
 {
-    upgrade::upgrade(file, Target::Rf64).number()
+    chunk::number(&upgrade::upgrade(file, Target::Rf64))
 }
 
 // Upgrades a file to BW64 in place.
 pub fn symphedra_upgrade_bw64(file: &mut [u8]) -> u32
     ensures { Upgrades bw64 file.old result file.new }
 {
-    upgrade::upgrade(file, Target::Bw64).number()
+    chunk::number(&upgrade::upgrade(file, Target::Bw64))
 }
 
 // The nine words of a format record, or zeros.

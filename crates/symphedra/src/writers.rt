@@ -1,11 +1,12 @@
 // The exported writers. Each gives its number, and in word 0 of written how many bytes it wrote: 0 after a refusal.
+ghost use Rattle.chunk.specs.Writes.{Writes};
 ghost use Rattle.bext.specs.Writing.{asked};
 ghost use Rattle.records.specs.Writing.{WritesFmt, WritesBext, WritesChna};
-ghost use Rattle.symphedra.specs.Exports.{WritesFile, riff_form, rf64_form, bw64_form};
+ghost use Rattle.symphedra.specs.Exports.{file_of, WritesFile, riff_form, rf64_form, bw64_form};
 
-use chunk::{Refusal, Written};
+use chunk::Refusal;
+use file::Input;
 use form::Form;
-use records::Given;
 
 // Writes the payload of a format record, which is nine words.
 pub fn symphedra_write_fmt(record: &[u64], out: &mut [u8], written: &mut [u64]) -> u32
@@ -59,7 +60,7 @@ pub fn symphedra_write_bext(
     )
 }
 
-// Writes a file of a form.
+// Writes a file of a form. Any number of words but nine is 16.
 fn write_file(
     form: Form,
     words: &[u64],
@@ -71,13 +72,25 @@ fn write_file(
 ) -> u32
     ensures { WritesFile form words.now bext.now chna.now audio.now out.old written.old result out.new written.new }
 {
-    let Given::Nine(format) = records::format(words) else {
-        return words::tell(Written::Refused(Refusal::BadRecord), written);
-    };
-    let end = words::room(out.len(), written.len());
-    let answer = writer::write(form, format, bext, chna, audio, &mut out[..end]);
-    words::tell(answer, written)
+    words::lend(
+        out,
+        written,
+        |out|
+            ensures { Writes (file_of form words.entry.now bext.entry.now chna.entry.now audio.entry.now) out.old out.new result }
+        {
+            let format = records::format(words).ok_or(Refusal::BadRecord)?;
+            let input = Input {
+                format,
+                bext,
+                chna,
+                audio,
+            };
+            writer::write(form, input, out)
+        },
+    )
 }
+
+// Kept: three functions for the three forms, since C calls each by its name (include/symphedra.h).
 
 // Writes a RIFF file.
 pub fn symphedra_write_riff(

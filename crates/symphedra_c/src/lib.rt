@@ -1,6 +1,7 @@
 // The archive libsymphedra: what include/symphedra.h declares.
 //
 // Each export is the function of its name in the crate symphedra, with that function's clauses.
+// Kept: a function for each name that C calls (include/symphedra.h), in a crate of its own, since a crate is a library or an archive.
 #![tactic(auto)]
 
 mod writers;

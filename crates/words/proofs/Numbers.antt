@@ -6,7 +6,7 @@ use native.Mathlib.Omega.{arith}
 use lib.Dec.{lit≤}
 use Rattle.chunk.specs.declared.Refusal.{Refusal}
 use Rattle.chunk.specs.declared.Refusal.TheVariants.{TooShort, NotWave, Unfinished, BadDs64, BadFormSize, CutHeader, TooMany, UnknownSize, PastEnd, BadChunkSet, BadFmt, RaggedAudio, BadBext, BadChna, BadRecord, TooLarge, ShortOutput, Already64, NoReserve, StaleListing}
-use Rattle.chunk.specs.Refusals.{refusal_number, verdict_number, Answer, refused, given, verdict_of}
+use Rattle.chunk.specs.Refusals.{refusal_number, number_of, Answer, Err, Ok, verdict_of}
 
 pub refusal-number : (r : Refusal) → 1 ≤ refusal_number r
 refusal-number TooShort = lit≤ tt
@@ -31,7 +31,7 @@ refusal-number NoReserve = lit≤ tt
 refusal-number StaleListing = lit≤ tt
 
 -- so an answer whose number is 0 has a value
-pub accepted : {A : Type 0} (x : Answer A) → verdict_number (verdict_of x) ≡ 0 → (a : A) × (x ≡ given a)
+pub accepted : {A : Type 0} (x : Answer A) → number_of (verdict_of x) ≡ 0 → (a : A) × (x ≡ Ok a)
 unfolding verdict_of
-accepted (refused r) e = absurd (omega (arith, e, refusal-number r))
-accepted (given a) e = (a, refl)
+accepted (Err r) e = absurd (omega (arith, e, refusal-number r))
+accepted (Ok a) e = (a, refl)

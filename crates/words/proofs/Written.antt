@@ -13,27 +13,22 @@ use borrow.Author.Tests.{le-leb, lt-leb, leb-true, ne_eqb}
 use Rattle.le.specs.Choice.{pick}
 use Rattle.chunk.specs.declared.Refusal.{Refusal}
 use Rattle.chunk.specs.declared.Refusal.TheVariants.{ShortOutput}
-use Rattle.chunk.specs.declared.Written.{Written}
-use Rattle.chunk.specs.declared.Written.TheVariants as written
-use Rattle.chunk.specs.Refusals.{Answer, refused, given, check, and_then}
-use Rattle.chunk.specs.Writes.{fitting, written_of, written_number, written_values, output_of}
+use Rattle.chunk.specs.Refusals.{Answer, Err, Ok, number_of, check, and_then}
+use Rattle.chunk.specs.Writes.{fitting, written_of, written_values, output_of}
 use Rattle.chunk.proofs.Checks.{given-inj, pick-false, picked, check-given, check-true, check-false, and_then-given}
 use Rattle.words.proofs.Numbers.{refusal-number}
 use Rattle.words.specs.Answers.{counted, WritesOut}
 use Rattle.words.specs.Code.{Tells}
-
--- what is to be written is not empty
-abbrev pub Filled : Answer (List ℕ) → Type 0
-Filled a = (bs : List ℕ) → a ≡ given bs → 1 ≤ length bs
+pub use Rattle.words.specs.Code.{Filled}
 
 -- ---- with a word to count in, and without one
 
-once : (b : Bool) (y : Answer (List ℕ)) → b ≡ true → and_then y (λ bs. check b ShortOutput (given bs)) ≡ y
+once : (b : Bool) (y : Answer (List ℕ)) → b ≡ true → and_then y (λ bs. check b ShortOutput (Ok bs)) ≡ y
 unfolding and_then
-once b (refused r) e = refl
-once b (given bs) e = check-true b ShortOutput (given bs) e
+once b (Err r) e = refl
+once b (Ok bs) e = check-true b ShortOutput (Ok bs) e
 
-never : (out bs : List ℕ) (b : Bool) → and_then (check b ShortOutput (given bs)) (λ (bs : List ℕ). check (leb 1 0) ShortOutput (given bs)) ≡ refused ShortOutput
+never : (out bs : List ℕ) (b : Bool) → and_then (check b ShortOutput (Ok bs)) (λ (bs : List ℕ). check (leb 1 0) ShortOutput (Ok bs)) ≡ Err ShortOutput
 unfolding and_then check
 never out bs true = refl
 never out bs false = refl
@@ -45,16 +40,16 @@ with-word out x xs a = once (leb 1 (length (x ∷ xs))) (fitting out a) (le-leb 
 -- both refuse, and for the same reason
 record Both (out : List ℕ) (a : Answer (List ℕ)) : Type 0 where
   why : Refusal
-  writer : fitting [] a ≡ refused why
-  export : counted out [] a ≡ refused why
+  writer : fitting [] a ≡ Err why
+  export : counted out [] a ≡ Err why
 
 without : (out : List ℕ) (a : Answer (List ℕ)) → Filled a → Both out a
 unfolding fitting counted
-without out (refused r) h = record { why = r; writer = refl; export = refl }
-without out (given bs) h =
+without out (Err r) h = record { why = r; writer = refl; export = refl }
+without out (Ok bs) h =
     record {
       why = ShortOutput;
-      writer = check-false (leb (length bs) 0) ShortOutput (given bs) (lt-leb (length bs) 0 (h bs refl));
+      writer = check-false (leb (length bs) 0) ShortOutput (Ok bs) (lt-leb (length bs) 0 (h bs refl));
       export = never out bs (leb (length bs) (length out));
     }
 
@@ -97,26 +92,26 @@ part out w n e = subst (λ (k : ℕ). k ≤ length out) (sym e) (picked (λ (k :
 
 -- ---- the export
 
-pub wrote : (a : Answer (List ℕ)) (out w u w' : List ℕ) (n : ℕ) (x : Written) (r : ℕ)
+pub wrote : (a : Answer (List ℕ)) (out w u w' : List ℕ) (n : ℕ) (x : Answer ℕ) (r : ℕ)
     → Filled a → n ≡ pick (eqb (length w) 0) 0 (length out)
     → x ≡ written_of (fitting (take n out) a) → u ≡ output_of (take n out) (fitting (take n out) a)
     → Tells x w r w' → WritesOut a out w r (u ++ drop n out) w'
 wrote a out w u w' n x r h e answers leaves t =
     let l = lent out w n a h e in
     record {
-      number = t.number ∙ ap written_number (answers ∙ l.answer);
+      number = t.number ∙ ap number_of (answers ∙ l.answer);
       bytes = ap (λ (s : List ℕ). s ++ drop n out) leaves ∙ l.output;
-      words = t.words ∙ ap (λ (y : Written). sets w 0 (written_values y)) (answers ∙ l.answer);
+      words = t.words ∙ ap (λ (y : Answer ℕ). sets w 0 (written_values y)) (answers ∙ l.answer);
     }
 
 -- what is refused before the writer is called
 pub refuses : (a : Answer (List ℕ)) (why : Refusal) (out w w' : List ℕ) (r : ℕ)
-    → a ≡ refused why → Tells (written.Refused why) w r w' → WritesOut a out w r out w'
+    → a ≡ Err why → Tells (Err why) w r w' → WritesOut a out w r out w'
 unfolding counted fitting written_of output_of
 refuses a why out w w' r e t =
-    let q : counted out w a ≡ refused why = ap (counted out w) e in
+    let q : counted out w a ≡ Err why = ap (counted out w) e in
     record {
-      number = t.number ∙ sym (ap (λ (y : Answer (List ℕ)). written_number (written_of y)) q);
+      number = t.number ∙ sym (ap (λ (y : Answer (List ℕ)). number_of (written_of y)) q);
       bytes = sym (ap (output_of out) q);
       words = t.words ∙ sym (ap (λ (y : Answer (List ℕ)). sets w 0 (written_values (written_of y))) q);
     }
@@ -126,27 +121,27 @@ refuses a why out w w' r e t =
 -- a refusal changes no byte, and its word is 0
 pub refused-out : (a : Answer (List ℕ)) (out w : List ℕ) (r : ℕ) (out' w' : List ℕ) → WritesOut a out w r out' w' → (r ≡ 0 → ⊥)
     → (out' ≡ out) × (w' ≡ sets w 0 (0 ∷ []))
-unfolding written_of output_of written_number written_values
+unfolding written_of output_of written_values
 refused-out a out w r out' w' t h = cases (counted out w a) t.number t.bytes t.words
   where
-    cases : (x : Answer (List ℕ)) → r ≡ written_number (written_of x) → out' ≡ output_of out x → w' ≡ sets w 0 (written_values (written_of x))
+    cases : (x : Answer (List ℕ)) → r ≡ number_of (written_of x) → out' ≡ output_of out x → w' ≡ sets w 0 (written_values (written_of x))
         → (out' ≡ out) × (w' ≡ sets w 0 (0 ∷ []))
-    cases (refused why) n b v = (b, v)
-    cases (given bs) n b v = absurd (h n)
+    cases (Err why) n b v = (b, v)
+    cases (Ok bs) n b v = absurd (h n)
 
 -- what was written: as many bytes as the word says, at the start of the output
 pub record WroteOut (a : Answer (List ℕ)) (out out' w' : List ℕ) : Type 0 where
-  pub is_given : a ≡ given (take (get_or w' 0 0) out')
+  pub is_given : a ≡ Ok (take (get_or w' 0 0) out')
   pub fits : get_or w' 0 0 ≤ length out
   pub output : out' ≡ take (get_or w' 0 0) out' ++ drop (get_or w' 0 0) out
 
 -- bytes that fit, and a word to count them in
 record Counted (a : Answer (List ℕ)) (out w bs : List ℕ) : Type 0 where
-  is : a ≡ given bs
+  is : a ≡ Ok bs
   room : length bs ≤ length out
   word : 1 ≤ length w
 
-counted-given : (a : Answer (List ℕ)) (out w bs : List ℕ) → counted out w a ≡ given bs → Counted a out w bs
+counted-given : (a : Answer (List ℕ)) (out w bs : List ℕ) → counted out w a ≡ Ok bs → Counted a out w bs
 unfolding counted fitting
 counted-given a out w bs e =
     let f = and_then-given _ _ bs e in
@@ -155,7 +150,7 @@ counted-given a out w bs e =
     let k = check-given _ _ _ f.0 h.2 in
     let same : h.0 ≡ bs = given-inj _ _ k.1 ∙ given-inj _ _ g.1 in
     record {
-      is = h.1 ∙ ap given same;
+      is = h.1 ∙ ap Ok same;
       room = subst (λ (l : List ℕ). length l ≤ length out) same (leb-true _ _ k.0);
       word = leb-true 1 (length w) g.0;
     }
@@ -165,36 +160,36 @@ first_word [] n h = absurd (omega (arith, h))
 first_word (v ∷ w) n h = refl
 
 pub wrote-out : (a : Answer (List ℕ)) (out w : List ℕ) (out' w' : List ℕ) → WritesOut a out w 0 out' w' → WroteOut a out out' w'
-unfolding written_of output_of written_number written_values
+unfolding written_of output_of written_values
 wrote-out a out w out' w' t = cases (counted out w a) refl t.number t.bytes t.words
   where
-    cases : (x : Answer (List ℕ)) → counted out w a ≡ x → 0 ≡ written_number (written_of x) → out' ≡ output_of out x → w' ≡ sets w 0 (written_values (written_of x))
+    cases : (x : Answer (List ℕ)) → counted out w a ≡ x → 0 ≡ number_of (written_of x) → out' ≡ output_of out x → w' ≡ sets w 0 (written_values (written_of x))
         → WroteOut a out out' w'
-    cases (refused why) e n b v = absurd (omega (arith, n, refusal-number why))
-    cases (given bs) e n b v =
+    cases (Err why) e n b v = absurd (omega (arith, n, refusal-number why))
+    cases (Ok bs) e n b v =
         let c = counted-given a out w bs e in
         let k : get_or w' 0 0 ≡ length bs = ap (λ (l : List ℕ). get_or l 0 0) v ∙ first_word w (length bs) c.word in
         let front : take (get_or w' 0 0) out' ≡ bs =
         ap (take (get_or w' 0 0)) b ∙ take_at bs (drop (length bs) out) (get_or w' 0 0) (sym k) in
         record {
-          is_given = c.is ∙ ap given (sym front);
+          is_given = c.is ∙ ap Ok (sym front);
           fits = omega (arith, k, c.room);
           output = b ∙ ap₂ (λ (l : List ℕ) (m : ℕ). l ++ drop m out) (sym front) (sym k);
         }
 
 -- bytes for which there is room, and a word
-pub writes-given : (a : Answer (List ℕ)) (bs out w : List ℕ) (r : ℕ) (out' w' : List ℕ) → a ≡ given bs → length bs ≤ length out → 1 ≤ length w
+pub writes-given : (a : Answer (List ℕ)) (bs out w : List ℕ) (r : ℕ) (out' w' : List ℕ) → a ≡ Ok bs → length bs ≤ length out → 1 ≤ length w
     → WritesOut a out w r out' w' → (r ≡ 0) × (take (get_or w' 0 0) out' ≡ bs)
-unfolding counted fitting and_then written_of output_of written_number written_values
+unfolding counted fitting and_then written_of output_of written_values
 writes-given a bs out w r out' w' e room word t =
-    let fit : fitting out a ≡ given bs =
-    ap (fitting out) e ∙ check-true (leb (length bs) (length out)) ShortOutput (given bs) (le-leb (length bs) (length out) room) in
-    let all : counted out w a ≡ given bs =
-    ap (λ (x : Answer (List ℕ)). and_then x (λ (l : List ℕ). check (leb 1 (length w)) ShortOutput (given l))) fit
-    ∙ check-true (leb 1 (length w)) ShortOutput (given bs) (le-leb 1 (length w) word) in
+    let fit : fitting out a ≡ Ok bs =
+    ap (fitting out) e ∙ check-true (leb (length bs) (length out)) ShortOutput (Ok bs) (le-leb (length bs) (length out) room) in
+    let all : counted out w a ≡ Ok bs =
+    ap (λ (x : Answer (List ℕ)). and_then x (λ (l : List ℕ). check (leb 1 (length w)) ShortOutput (Ok l))) fit
+    ∙ check-true (leb 1 (length w)) ShortOutput (Ok bs) (le-leb 1 (length w) word) in
     let k : get_or w' 0 0 ≡ length bs =
     ap (λ (l : List ℕ). get_or l 0 0) (t.words ∙ ap (λ (x : Answer (List ℕ)). sets w 0 (written_values (written_of x))) all)
     ∙ first_word w (length bs) word in (
-      t.number ∙ ap (λ (x : Answer (List ℕ)). written_number (written_of x)) all,
+      t.number ∙ ap (λ (x : Answer (List ℕ)). number_of (written_of x)) all,
       ap (take (get_or w' 0 0)) (t.bytes ∙ ap (output_of out) all) ∙ take_at bs (drop (length bs) out) (get_or w' 0 0) (sym k),
     )

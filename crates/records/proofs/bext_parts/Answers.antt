@@ -7,18 +7,10 @@ use Rattle.records.proofs.bext_parts.Goals as goal
 
 pub returns-then-payload-lt-HISTORY : goal.returns-then-payload-lt-HISTORY
 returns-then-payload-lt-HISTORY c =
-    same 14 _ _ _ _ _ _ _ refl (ap (sets c.args.words.now 0) (no-parts _ c.if-payload-lt-HISTORY.true)) c.zeros.ensures
+    same 14 _ _ _ _ _ _ _ refl (ap (sets c.args.words.now 0) (no-parts _ c.if-payload-lt-HISTORY.true)) c.answer.ensures
 
 pub returns : goal.returns
 returns c =
     same 14 _ _ _ _ _ _ _ refl
-    (ap (sets c.args.words.now 0)
-    (parts c.args.payload.now _ _ _ _ _ _ _ c.if-payload-lt-HISTORY.false
-    c.description.ensures
-    c.originator.ensures
-    c.reference.ensures
-    c.date.ensures
-    c.time.ensures
-    c.rest.ensures
-    c.history.ensures))
-    c.answer.ensures
+    (ap (sets c.args.words.now 0) (parts c.args.payload.now c.of-parts.result c.if-payload-lt-HISTORY.false c.of-parts.ensures))
+    c.answer-2.ensures

@@ -1,19 +1,9 @@
--- `records::read_fmt` meets its contract: in each arm the answer is known.
-use mathlib.Core.Path.{sym, ◌∙◌, ap}
-use lib.Seq.{sets}
-use Rattle.fmt.specs.declared.Reading.{Reading}
-use Rattle.fmt.specs.Formats.{fmt_number, fmt_values}
-use Rattle.words.proofs.Answered.{same}
+-- `records::read_fmt` meets its contract: the words are those of the answer.
+use mathlib.Core.Path.{refl}
+use Rattle.fmt.specs.Formats.{fmt_values}
+use Rattle.records.proofs.Values.{told}
 use Rattle.records.proofs.read_fmt.Goals as goal
 
-pub returns-in-Record : goal.returns-in-Record
-unfolding fmt_number fmt_values
-returns-in-Record c =
-    let e = sym c.read.ensures ∙ c.in-Record.is in
-    same 9 _ _ _ _ _ _ _ (sym (ap fmt_number e)) (sym (ap (λ (x : Reading). sets c.args.words.now 0 (fmt_values x)) e)) c.answer.ensures
-
-pub returns-in-Refused : goal.returns-in-Refused
-unfolding fmt_number fmt_values
-returns-in-Refused c =
-    let e = sym c.read.ensures ∙ c.in-Refused.is in
-    same 9 _ _ _ _ _ _ _ (c.number.ensures ∙ sym (ap fmt_number e)) (sym (ap (λ (x : Reading). sets c.args.words.now 0 (fmt_values x)) e)) c.zeros.ensures
+pub returns : goal.returns
+unfolding fmt_values
+returns c = told 9 _ _ fmt_values _ _ _ _ _ c.read.ensures c.map.ensures.cases (λ a l is. is) (λ r. refl) c.answer_or_zeros.ensures
