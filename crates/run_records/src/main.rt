@@ -12,110 +12,80 @@
 // document 01.
 #![tactic(auto)]
 
-ghost use Rattle.std.specs.Prelude.{◌≤◌, length, IfOk};
+ghost use Rattle.std.specs.Prelude.{◌≤◌, length};
 
-use bext::Bext;
-use chunk::{Refusal, Written};
+use bext::{Bext, Parts};
+use chunk::Refusal;
 use fmt::Format;
-use script::{Sign, State, first, part};
-use std::io::{self, Read};
-
-fn text(rt: &impl Print, s: &[u8]) -> io::Result<()> {
-    rt.write_all(s)
-}
-
-// A number after a space.
-fn next(rt: &impl Print, n: u64) -> io::Result<()> {
-    text(rt, b" ")?;
-    rt.print(n)
-}
+use script::{first, part};
+use std::io;
 
 fn refused(rt: &impl Print, r: Refusal) -> io::Result<()> {
-    next(rt, r.number() as u64)
+    print!(rt; " {}", u32::from(r))
 }
 
-// What a writer answers. Gives the number of bytes that it wrote, 0 where it refused.
-fn answer(rt: &impl Print, w: Written) -> io::Result<usize> {
-    match w {
-        Written::Refused(r) => {
-            refused(rt, r)?;
-            Ok(0)
-        }
-        Written::Bytes(k) => {
-            next(rt, k)?;
-            Ok(k as usize)
-        }
+// What a writer answers.
+fn answer(rt: &impl Print, written: Result<u64, Refusal>) -> io::Result<()> {
+    match written {
+        Err(r) => refused(rt, r),
+        Ok(n) => print!(rt; " {n}"),
     }
 }
 
 // Whether some bytes are those that they were.
 fn compared(rt: &impl Print, now: &[u8], before: &[u8]) -> io::Result<()> {
-    if now == before {
-        text(rt, b" same")
-    } else {
-        text(rt, b" changed")
-    }
+    rt.print(if now == before { " same" } else { " changed" })
 }
 
 // What a writer answers, and whether it wrote the bytes that were read.
-fn written(rt: &impl Print, w: Written, out: &[u8], payload: &[u8]) -> io::Result<()> {
-    text(rt, b"; written")?;
-    let n = answer(rt, w)?;
-    if n == 0 {
-        return Ok(());
+fn written(
+    rt: &impl Print,
+    written: Result<u64, Refusal>,
+    out: &[u8],
+    payload: &[u8],
+) -> io::Result<()> {
+    print!(rt; "; written")?;
+    answer(rt, written)?;
+    if let Ok(n) = written {
+        compared(rt, first(out, n as usize), payload)?;
     }
-    compared(rt, first(out, n), payload)
-}
-
-// What a writer answers to an output that is too short.
-fn short(rt: &impl Print, w: Written) -> io::Result<()> {
-    text(rt, b", short")?;
-    answer(rt, w)?;
     Ok(())
 }
 
-// The fields of fmt.
-fn format(rt: &impl Print, r: Format) -> io::Result<()> {
-    text(rt, b" 0")?;
-    next(rt, r.size)?;
-    next(rt, r.tag)?;
-    next(rt, r.channels)?;
-    next(rt, r.rate)?;
-    next(rt, r.byterate)?;
-    next(rt, r.block)?;
-    next(rt, r.bits)?;
-    next(rt, r.valid)?;
-    next(rt, r.mask)
+// What a writer answers to an output that is too short.
+fn short(rt: &impl Print, written: Result<u64, Refusal>) -> io::Result<()> {
+    print!(rt; ", short")?;
+    answer(rt, written)
 }
 
-// Writes the fmt that was read from a payload.
-fn write_fmt(rt: &impl Print, r: Format, payload: &[u8]) -> io::Result<()> {
-    let mut out = [0u8; 4096];
-    let w = fmt::write(r, &mut out);
-    written(rt, w, &out, payload)?;
-    let mut less = [0u8; 15];
-    short(rt, fmt::write(r, &mut less))
-}
-
-// Reads a payload as fmt, and writes the record.
-fn fmt(rt: &impl Print, payload: &[u8]) -> io::Result<()> {
-    text(rt, b":")?;
-    match fmt::read(payload) {
-        fmt::Reading::Refused(r) => refused(rt, r),
-        fmt::Reading::Record(r) => {
-            format(rt, r)?;
-            write_fmt(rt, r, payload)
+// What a reader of fmt says: 0 and the fields, or the refusal.
+fn format(rt: &impl Print, read: Result<Format, Refusal>) -> io::Result<()> {
+    match read {
+        Err(r) => refused(rt, r),
+        Ok(r) => {
+            print!(rt; " 0 {} {} {} {}", r.size, r.tag, r.channels, r.rate)?;
+            print!(rt;
+                " {} {} {} {} {}",
+                r.byterate, r.block, r.bits, r.valid, r.mask
+            )
         }
     }
 }
 
-// A payload that was written, read as fmt.
-fn back(rt: &impl Print, payload: &[u8]) -> io::Result<()> {
-    text(rt, b", back")?;
-    match fmt::read(payload) {
-        fmt::Reading::Refused(r) => refused(rt, r),
-        fmt::Reading::Record(r) => format(rt, r),
+// Reads a payload as fmt, and writes the record.
+// Kept: beside bext and chna, since they differ in the writer, in what it takes and in the room that is too short.
+fn fmt(rt: &impl Print, payload: &[u8]) -> io::Result<()> {
+    print!(rt; ":")?;
+    let read = fmt::read(payload);
+    format(rt, read)?;
+    if let Ok(record) = read {
+        let mut out = [0u8; 4096];
+        let n = fmt::write(record, &mut out);
+        written(rt, n, &out, payload)?;
+        let mut less = [0u8; 15];
+        short(rt, fmt::write(record, &mut less))?;
     }
+    Ok(())
 }
 
 // The fmt record whose fields stand as numbers of 8 bytes.
@@ -123,154 +93,113 @@ fn fields(file: &[u8]) -> Format
     requires { 72 ≤ length file.now }
 {
     Format {
-        size: le::read8(file, 0),
-        tag: le::read8(file, 8),
-        channels: le::read8(file, 16),
-        rate: le::read8(file, 24),
-        byterate: le::read8(file, 32),
-        block: le::read8(file, 40),
-        bits: le::read8(file, 48),
-        valid: le::read8(file, 56),
-        mask: le::read8(file, 64),
+        size: le::read::<8>(file, 0),
+        tag: le::read::<8>(file, 8),
+        channels: le::read::<8>(file, 16),
+        rate: le::read::<8>(file, 24),
+        byterate: le::read::<8>(file, 32),
+        block: le::read::<8>(file, 40),
+        bits: le::read::<8>(file, 48),
+        valid: le::read::<8>(file, 56),
+        mask: le::read::<8>(file, 64),
     }
 }
 
 // Writes a fmt record and reads it back.
-fn given_fmt(rt: &impl Print, file: &[u8]) -> io::Result<()>
-    requires { 72 ≤ length file.now }
-{
+fn given_fmt(rt: &impl Print, record: Format) -> io::Result<()> {
     let mut out = [0u8; 4096];
-    let w = fmt::write(fields(file), &mut out);
-    text(rt, b": written")?;
-    let n = answer(rt, w)?;
-    if 0 < n {
-        back(rt, first(&out, n))?;
+    let wrote = fmt::write(record, &mut out);
+    print!(rt; ": written")?;
+    answer(rt, wrote)?;
+    if let Ok(n) = wrote {
+        print!(rt; ", back")?;
+        format(rt, fmt::read(first(&out, n as usize)))?;
     }
     Ok(())
 }
 
-fn flag(rt: &impl Print, b: bool) -> io::Result<()> {
-    if b {
-        text(rt, b" set")
-    } else {
-        text(rt, b" none")
-    }
+// Whether a date or a time is set.
+fn set(flag: bool) -> &'static str {
+    if flag { "set" } else { "none" }
 }
 
 // The fields of bext.
 fn bext_fields(rt: &impl Print, r: Bext) -> io::Result<()> {
-    text(rt, b" 0")?;
-    next(rt, r.description_len)?;
-    next(rt, r.originator_len)?;
-    next(rt, r.reference_len)?;
-    flag(rt, r.date_set)?;
-    flag(rt, r.time_set)?;
-    next(rt, r.timeref)?;
-    next(rt, r.version)?;
-    next(rt, r.history_len)
-}
-
-// The bext that was read from a payload, written.
-fn bext_into(r: Bext, payload: &[u8], out: &mut [u8]) -> Written {
-    bext::write(
-        bext::slices::description(payload),
-        bext::slices::originator(payload),
-        bext::slices::reference(payload),
-        bext::slices::date(payload),
-        bext::slices::time(payload),
-        r.timeref,
-        r.version,
-        bext::slices::rest(payload),
-        bext::slices::history(payload),
-        out,
-    )
-}
-
-fn write_bext(rt: &impl Print, r: Bext, payload: &[u8]) -> io::Result<()> {
-    let mut out = [0u8; 4096];
-    let w = bext_into(r, payload, &mut out);
-    written(rt, w, &out, payload)?;
-    let mut less = [0u8; 601];
-    short(rt, bext_into(r, payload, &mut less))
+    print!(rt;
+        " 0 {} {} {}",
+        r.description_len, r.originator_len, r.reference_len
+    )?;
+    print!(rt; " {} {}", set(r.date_set), set(r.time_set))?;
+    print!(rt; " {} {} {}", r.timeref, r.version, r.history_len)
 }
 
 // Reads a payload as bext, and writes the record.
 fn bext(rt: &impl Print, payload: &[u8]) -> io::Result<()> {
-    text(rt, b":")?;
+    print!(rt; ":")?;
     match bext::read(payload) {
-        bext::Reading::Refused(r) => refused(rt, r),
-        bext::Reading::Record(r) => {
+        Err(r) => refused(rt, r),
+        Ok(r) => {
             bext_fields(rt, r)?;
-            write_bext(rt, r, payload)
+            let parts = Parts::of(payload);
+            let mut out = [0u8; 4096];
+            let n = bext::write(parts, &mut out);
+            written(rt, n, &out, payload)?;
+            let mut less = [0u8; 601];
+            short(rt, bext::write(parts, &mut less))
         }
     }
 }
 
 // Writes a bext with a description, the date and the time that stand in their places, and nothing else.
 fn given_bext(rt: &impl Print, description: &[u8], file: &[u8]) -> io::Result<()> {
-    let mut out = [0u8; 4096];
-    let none = first(file, 0);
-    let date = part(file, 320, 10);
-    let time = part(file, 330, 8);
-    let w = bext::write(
+    let parts = Parts {
         description,
-        none,
-        none,
-        date,
-        time,
-        0,
-        0,
-        none,
-        none,
-        &mut out,
-    );
-    text(rt, b": written")?;
-    answer(rt, w)?;
-    Ok(())
+        originator: &[],
+        reference: &[],
+        date: part(file, 320, 10),
+        time: part(file, 330, 8),
+        timeref: 0,
+        version: 0,
+        rest: &[],
+        history: &[],
+    };
+    let mut out = [0u8; 4096];
+    let n = bext::write(parts, &mut out);
+    print!(rt; ": written")?;
+    answer(rt, n)
 }
 
 // What is read as chna: track count, UID count, entries.
 fn chna_fields(rt: &impl Print, payload: &[u8], channels: u64) -> io::Result<()> {
     match chna::read(payload, channels) {
-        chna::Reading::Refused(r) => refused(rt, r),
-        chna::Reading::Record(r) => {
-            text(rt, b" 0")?;
-            next(rt, r.tracks)?;
-            next(rt, r.uids)?;
-            next(rt, r.entries)
-        }
+        Err(r) => refused(rt, r),
+        Ok(r) => print!(rt; " 0 {} {} {}", r.tracks, r.uids, r.entries),
     }
 }
 
 // A chna of the counts and entries in a payload, good or not, written.
-fn chna_into(payload: &[u8], channels: u64, out: &mut [u8]) -> Written
+fn chna_into(payload: &[u8], channels: u64, out: &mut [u8]) -> Result<u64, Refusal>
     requires { 4 ≤ length payload.now }
 {
     chna::write(
-        le::read2(payload, 0),
-        le::read2(payload, 2),
+        le::read::<2>(payload, 0),
+        le::read::<2>(payload, 2),
         &payload[4..],
         channels,
         out,
     )
 }
 
-fn write_chna(rt: &impl Print, payload: &[u8], channels: u64) -> io::Result<()>
-    requires { 4 ≤ length payload.now }
-{
-    let mut out = [0u8; 4096];
-    let w = chna_into(payload, channels, &mut out);
-    written(rt, w, &out, payload)?;
-    let mut less = [0u8; 3];
-    short(rt, chna_into(payload, channels, &mut less))
-}
-
 // Reads a payload as chna, and writes them, good or not.
 fn chna(rt: &impl Print, payload: &[u8], channels: u64) -> io::Result<()> {
-    text(rt, b":")?;
+    print!(rt; ":")?;
     chna_fields(rt, payload, channels)?;
     if 4 <= payload.len() {
-        write_chna(rt, payload, channels)?;
+        let mut out = [0u8; 4096];
+        let n = chna_into(payload, channels, &mut out);
+        written(rt, n, &out, payload)?;
+        let mut less = [0u8; 3];
+        short(rt, chna_into(payload, channels, &mut less))?;
     }
     Ok(())
 }
@@ -278,109 +207,55 @@ fn chna(rt: &impl Print, payload: &[u8], channels: u64) -> io::Result<()> {
 // Reads n zeros as chna.
 fn zeros(rt: &impl Print, n: usize) -> io::Result<()> {
     let none = [0u8; 65536];
-    text(rt, b":")?;
+    print!(rt; ":")?;
     chna_fields(rt, first(&none, n), 2)
-}
-
-// An identifier after a space.
-fn id(rt: &impl Print, s: &[u8]) -> io::Result<()> {
-    text(rt, b" ")?;
-    text(rt, s)
 }
 
 // An entry of a chna payload, good or not.
 fn entry(rt: &impl Print, payload: &[u8], i: usize) -> io::Result<()> {
-    text(rt, b":")?;
-    let e = chna::entry(payload, i);
-    if !e.used {
-        return text(rt, b" unused");
-    }
-    next(rt, e.index)?;
-    let uid = e.uid;
-    id(rt, &uid)?;
-    let track = e.track;
-    id(rt, &track)?;
-    let pack = e.pack;
-    id(rt, &pack)
+    let Some(e) = chna::entry(payload, i) else {
+        return print!(rt; ": unused");
+    };
+    print!(rt; ": {} ", e.index)?;
+    rt.write_all(&e.uid)?;
+    print!(rt; " ")?;
+    rt.write_all(&e.track)?;
+    print!(rt; " ")?;
+    rt.write_all(&e.pack)
 }
 
 // Copies a chna payload, good or not.
 fn copy(rt: &impl Print, payload: &[u8]) -> io::Result<()> {
     let mut out = [0u8; 84];
     chna::copy(payload, &mut out);
-    text(rt, b": copied")?;
+    print!(rt; ": copied")?;
     compared(rt, first(&out, payload.len()), payload)?;
     let mut less = [7u8; 3];
     chna::copy(payload, &mut less);
-    text(rt, b", short")?;
+    print!(rt; ", short")?;
     compared(rt, &less, &[7u8; 3])
 }
 
 // A line: what a command that is none of the script's asks, at a place and after the number n.
-fn command(rt: &impl Print, b: u8, at: u64, n: usize, file: &[u8]) -> io::Result<()>
-    requires { 72 ≤ length file.now }
-{
+// Kept: a match, since each command takes other things than the next.
+fn command(rt: &impl Print, b: u8, at: usize, n: usize, file: &[u8]) -> io::Result<()> {
     let payload = first(file, n);
     match b {
         b'f' => fmt(rt, payload)?,
         b'b' => bext(rt, payload)?,
-        b'c' => chna(rt, payload, at)?,
-        b'w' => given_fmt(rt, file)?,
+        b'c' => chna(rt, payload, at as u64)?,
+        b'w' if 72 <= file.len() => given_fmt(rt, fields(file))?,
         b'd' => given_bext(rt, payload, file)?,
         b'z' => zeros(rt, n)?,
-        b'e' => entry(rt, payload, at as usize)?,
+        b'e' => entry(rt, payload, at)?,
         b'p' => copy(rt, payload)?,
         _ => return Ok(()),
     }
-    text(rt, b"\n")
-}
-
-// What a script leaves to the program at a character.
-fn act(rt: &impl Print, sign: Sign, b: u8, at: usize, n: u64, file: &[u8]) -> io::Result<()>
-    requires { 72 ≤ length file.now }
-{
-    match sign {
-        Sign::Print => text(rt, &[b]),
-        Sign::Own => command(rt, b, at as u64, n as usize, file),
-        _ => Ok(()),
-    }
-}
-
-// The most bytes of input that are read.
-const INPUT: usize = 65_536;
-
-fn run(rt: &impl Print, input: &[u8]) -> io::Result<()> {
-    let mut file = [0u8; 2048];
-    let mut kept = [0u8; 2048];
-    let mut s = State::start();
-    let mut i: usize = 0;
-    while i < input.len() {
-        let b = input[i];
-        let sign = s.sign(b);
-        act(rt, sign, b, s.at, s.n, &file)?;
-        s = s.after(sign, &mut file, &mut kept);
-        i += 1;
-    }
-    Ok(())
-}
-
-// Reads until buf is full or the input ends, and answers how many bytes were read.
-fn read_full<R: Read>(reader: &mut R, buf: &mut [u8]) -> io::Result<usize>
-    ensures { IfOk result (λ n. n ≤ length buf.new) }
-{
-    let mut n = 0;
-    while n < buf.len() {
-        let got = reader.read(&mut buf[n..])?;
-        if got == 0 {
-            return Ok(n);
-        }
-        n += got;
-    }
-    Ok(n)
+    println!(rt)
 }
 
 fn main(rt: HostRuntime) -> io::Result<()> {
-    let mut buf = [0u8; INPUT];
-    let n = read_full(&mut rt.reader(), &mut buf)?;
-    run(&rt, &buf[..n])
+    script::run::<2048, _, _>(&rt, |b, state, file, _| {
+        command(&rt, b, state.at, state.n as usize, file)
+    })
 }

@@ -5,11 +5,16 @@
 // of the line. (text) is to be printed, and any other character is a command to the program that runs the script.
 #![tactic(auto)]
 
+mod input;
+pub mod print;
+
 ghost use Rattle.std.specs.Prelude.{◌≡◌, ◌<◌, length, take, drop};
-ghost use Rattle.script.specs.Scripts.{after, command_of, laid, place_after, put_at, sign_of, started, still, within, work};
+ghost use Rattle.script.specs.Scripts.{after, command_of, laid, place_after, put_at, sign_of, started, work};
+
+pub use input::run;
 
 // What the next character belongs to.
-#[derive(Clone, Copy)]
+#[derive(Clone, Copy, Debug, PartialEq, Eq)]
 pub enum Mode {
     Command,
     // A text to put.
@@ -20,7 +25,7 @@ pub enum Mode {
 }
 
 // What the characters so far have come to.
-#[derive(Clone, Copy)]
+#[derive(Clone, Copy, Debug, PartialEq, Eq)]
 pub struct State {
     pub mode: Mode,
     // Where the next byte goes.
@@ -30,7 +35,7 @@ pub struct State {
 }
 
 // What a character means.
-#[derive(Clone, Copy)]
+#[derive(Clone, Copy, Debug, PartialEq, Eq)]
 pub enum Sign {
     // A digit of the number.
     Digit(u8),
@@ -50,20 +55,11 @@ pub enum Sign {
     Own,
 }
 
-// A character of a text: its end, or what it means within.
-fn of_text(b: u8, end: u8, sign: Sign) -> Sign
-    ensures { result ≡ within b end sign }
-{
-    if b == end {
-        return Sign::Enter(Mode::Command);
-    }
-    sign
-}
-
 // Four bytes of ones, as a number.
 const ONES: u64 = 0xffff_ffff;
 
 // A character among the commands, after the number n.
+#[tactic(auto, unfolding(crate::specs::Scripts::command_of))]
 fn command(b: u8, n: u64) -> Sign
     ensures { result ≡ command_of b n }
 {
@@ -87,42 +83,27 @@ fn command(b: u8, n: u64) -> Sign
     }
 }
 
-// A byte as a wider number.
-fn wide(b: u8) -> u64
-    ensures { (result ≡ b) × (result < 256) }
-{
-    b as u64
-}
-
-// A state with no number.
-fn still(mode: Mode, at: usize) -> State
-    ensures { result ≡ still mode at }
-{
-    State { mode, at, n: 0 }
-}
-
 // Puts the low bytes of a number at a place, the lowest first, where they fit; answers the place after them.
+#[tactic(auto, unfolding(crate::specs::Scripts::place_after, crate::specs::Scripts::put_at))]
 fn put(file: &mut [u8], at: usize, width: usize, value: u64) -> usize
     ensures value { result ≡ place_after at width (length file.old) }
     ensures file_after { file.new ≡ put_at at width value file.old }
 {
-    if file.len() < width {
+    if file.len() < width || file.len() - width < at {
         return at;
     }
-    if file.len() - width < at {
-        return at;
-    }
+    let place = &mut file[at..at + width];
+    // Kept: no to_le_bytes, since the width may be any number (put_at, specs/Scripts.antt).
     let mut rest = value;
-    let mut i = 0;
-    while i < width {
-        file[at + i] = (rest % 256) as u8;
-        rest = rest / 256;
-        i += 1;
+    for byte in place.iter_mut() {
+        *byte = (rest % 256) as u8;
+        rest /= 256;
     }
     at + width
 }
 
 // Copies bytes over the first of others, where they fit.
+#[tactic(auto, unfolding(crate::specs::Scripts::laid))]
 fn copy(from: &[u8], to: &mut [u8])
     ensures { to.new ≡ laid from.now to.old }
 {
@@ -135,20 +116,14 @@ fn copy(from: &[u8], to: &mut [u8])
 pub fn first(s: &[u8], n: usize) -> &[u8]
     ensures { result.now ≡ take n s.now }
 {
-    if s.len() < n {
-        return s;
-    }
-    &s[..n]
+    &s[..n.min(s.len())]
 }
 
 // The n bytes at a place, or as many as there are.
 pub fn part(s: &[u8], at: usize, n: usize) -> &[u8]
     ensures { result.now ≡ take n (drop at s.now) }
 {
-    if s.len() < at {
-        return first(s, 0);
-    }
-    first(&s[at..], n)
+    first(&s[at.min(s.len())..], n)
 }
 
 impl State {
@@ -164,50 +139,53 @@ impl State {
     }
 
     // What the next character means.
+    #[tactic(auto, unfolding(crate::specs::Scripts::sign_of, crate::specs::Scripts::meaning, crate::specs::Scripts::within))]
     pub fn sign(self, b: u8) -> Sign
         ensures { result ≡ sign_of self b }
     {
-        let mode = self.mode;
-        match mode {
-            Mode::Command => command(b, self.n),
-            Mode::Text => of_text(
-                b,
-                b'"',
-                Sign::Put {
-                    width: 1,
-                    value: wide(b),
-                },
+        match (self.mode, b) {
+            (Mode::Command, _) => command(b, self.n),
+            (Mode::Text, b'"') | (Mode::Label, b')') | (Mode::Comment, b'\n') => Sign::Enter(
+                Mode::Command,
             ),
-            Mode::Label => of_text(b, b')', Sign::Print),
-            Mode::Comment => of_text(b, b'\n', Sign::Enter(Mode::Comment)),
+            (Mode::Text, _) => Sign::Put {
+                width: 1,
+                value: u64::from(b),
+            },
+            (Mode::Label, _) => Sign::Print,
+            (Mode::Comment, _) => Sign::Enter(Mode::Comment),
         }
     }
 
     // The state after a character that means this, and the file and the kept file.
+    #[tactic(auto, unfolding(crate::specs::Scripts::after))]
     pub fn after(self, sign: Sign, file: &mut [u8], kept: &mut [u8]) -> State
         ensures { work result file.new kept.new ≡ after sign self file.old kept.old }
     {
-        let mode = self.mode;
-        let at = self.at;
+        let still = State { n: 0, ..self };
         match sign {
             Sign::Digit(d) => State {
-                mode,
-                at,
-                n: (self.n % 0x1000_0000_0000_0000) * 10 + wide(d),
+                n: (self.n % 0x1000_0000_0000_0000) * 10 + u64::from(d),
+                ..self
             },
-            Sign::Go => still(mode, self.n as usize),
-            Sign::Put { width, value } => still(mode, put(file, at, width, value)),
-            Sign::Enter(next) => still(next, at),
+            Sign::Go => State {
+                at: self.n as usize,
+                ..still
+            },
+            Sign::Put { width, value } => State {
+                at: put(file, self.at, width, value),
+                ..still
+            },
+            Sign::Enter(mode) => State { mode, ..still },
             Sign::Keep => {
                 copy(file, kept);
-                still(mode, at)
+                still
             }
             Sign::Back => {
                 copy(kept, file);
-                still(mode, at)
+                still
             }
-            Sign::Print => still(mode, at),
-            Sign::Own => still(mode, at),
+            Sign::Print | Sign::Own => still,
         }
     }
 }
