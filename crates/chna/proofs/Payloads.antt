@@ -29,7 +29,7 @@ entry-bytes e h n = by (fits UNUSED e) refl where
 
 -- ---- all entries
 
-Bytes-take : (n : ℕ) (s : List ℕ) → Bytes s → Bytes (take n s)
+pub Bytes-take : (n : ℕ) (s : List ℕ) → Bytes s → Bytes (take n s)
 unfolding Bytes
 Bytes-take zero s h i = omega arith
 Bytes-take (suc n) [] h i = omega arith

@@ -1,16 +1,16 @@
 -- The laws of patterns: a pattern in two parts asks each part of its own bytes, a part with no x asks for its own characters, and
 -- each pattern of an entry is thus the tests that the code makes. Bytes that fit are as many as the pattern has.
 -- Assumes nothing.
-use Rattle.std.proofs.Common.{arith, ◌≡◌, refl, sym, ap, ap₂, ◌∙◌, true≢false, Bool, true, false, not, ◌&&◌, ◌||◌, List, [], ◌∷◌, ◌++◌, ℕ, zero, suc, ◌+◌, ◌-◌, ◌<◌, ◌≤◌, length, take, drop, get_or, replicate, eqb}
+use Rattle.std.proofs.Common.{arith, ◌≡◌, refl, sym, ap, ap₂, ◌∙◌, true≢false, Bool, true, false, not, ◌&&◌, ◌||◌, List, [], ◌∷◌, ◌++◌, ℕ, zero, suc, ◌+◌, ◌*◌, ◌-◌, ◌<◌, ◌≤◌, length, take, drop, take_all, get_or, replicate, eqb}
 use Rattle.std.proofs.Math.Seq.{take-add, drop-drop, drop-cons, take-take}
 use Rattle.std.proofs.lemmas.Bool.{eqb-true, not-true, and_parts}
 use Rattle.std.proofs.lemmas.Bool.Decides.{nat_tests}
 use Rattle.std.specs.List.{list_all, starts_with}
 use lib.Pointwise.{pointwise}
-use Rattle.le.specs.Number.{field}
+use Rattle.le.specs.Number.{value, field, number}
 use Rattle.le.specs.Choice.{pick}
 use Rattle.le.proofs.Laws.{field-length}
-use Rattle.chna_entry.specs.Ids.{is_hex, fits_one, fits, codes, UID, TRACK, CHANNEL, PACK}
+use Rattle.chna_entry.specs.Ids.{is_hex, fits_one, fits, codes, UID, TRACK, CHANNEL, PACK, NOPACK, UNUSED}
 use Rattle.chna_entry.specs.Code.{hexes}
 
 -- ---- two tests, the second asked where the first holds
@@ -52,7 +52,7 @@ fits-append [] (b ∷ l) qs m h = absurd (omega arith)
 fits-append (p ∷ ps) [] qs m h = absurd (omega arith)
 fits-append (p ∷ ps) (b ∷ l) qs m h = by_first (fits_one p b) _ _ _ (fits-append ps l qs m (omega arith))
 
-fits-split : (ps qs : List ℕ) (at : ℕ) (s : List ℕ) → at + length ps ≤ length s
+pub fits-split : (ps qs : List ℕ) (at : ℕ) (s : List ℕ) → at + length ps ≤ length s
     → fits (ps ++ qs) (field (length ps + length qs) at s)
     ≡ both (fits ps (field (length ps) at s)) (fits qs (field (length qs) (at + length ps) s))
 unfolding field
@@ -123,13 +123,29 @@ either-length ps qs l n e = by (fits ps l) refl e where
   by true f g = fits-length ps l f
   by false f g = fits-length qs l g ∙ sym n
 
--- bytes that are equal to zeros, as the code compares them, fit a pattern of zeros
-pub same-zeros : (n : ℕ) (l : List ℕ) → pointwise eqb l (replicate n 0) ≡ fits (replicate n 0) l
-unfolding fits fits_one pick
-same-zeros zero [] = refl
-same-zeros zero (b ∷ l) = refl
-same-zeros (suc n) [] = refl
-same-zeros (suc n) (b ∷ l) = rw (same-zeros n l) (and_both (eqb b 0) (fits (replicate n 0) l))
+pub misfits : (ps l : List ℕ) → (length l ≡ length ps → ⊥) → fits ps l ≡ false
+misfits ps l h = by (fits ps l) refl where
+  by : (b : Bool) → fits ps l ≡ b → b ≡ false
+  by true f = absurd (h (fits-length ps l f))
+  by false f = refl
+
+-- bytes fit a pattern of zeros where their number is 0, as the code asks
+zero-more : (b v : ℕ) → both (eqb b 0) (eqb v 0) ≡ eqb (b + 256 * v) 0
+unfolding pick
+zero-more zero zero = refl
+zero-more zero (suc v) = grind (arith, nat_tests)
+zero-more (suc b) v = grind (arith, nat_tests)
+
+zeros-value : (n : ℕ) (l : List ℕ) → length l ≡ n → fits (replicate n 0) l ≡ eqb (value l) 0
+unfolding fits fits_one pick value
+zeros-value zero [] h = refl
+zeros-value zero (b ∷ l) h = absurd (omega arith)
+zeros-value (suc n) [] h = absurd (omega arith)
+zeros-value (suc n) (b ∷ l) h = rw (zeros-value n l (omega arith)) (zero-more b (value l))
+
+pub zeros-number : (n at : ℕ) (s : List ℕ) → at + n ≤ length s → fits (replicate n 0) (field n at s) ≡ eqb (number n at s) 0
+unfolding number
+zeros-number n at s h = zeros-value n (field n at s) (field-length n at s h)
 
 -- zeros are all that fits a pattern of zeros
 pub zeros-only : (n : ℕ) (l : List ℕ) → fits (replicate n 0) l ≡ true → l ≡ replicate n 0
@@ -175,3 +191,27 @@ module _ (e : List ℕ) (n : length e ≡ 39) where
   pack-tests =
       fits-split (codes "AP_") (hexes 8) 28 e (omega arith)
       ∙ ap (λ (t : Bool). both t (fits (hexes 8) (field 8 31 e))) (begins-fits e 28 (codes "AP_") refl (omega arith))
+
+  pub nopack-tests : fits NOPACK (field 11 28 e)
+      ≡ both (eqb (number 8 28 e) 0) (both (eqb (number 2 36 e) 0) (eqb (number 1 38 e) 0))
+  nopack-tests =
+      fits-split (replicate 8 0) (replicate 3 0) 28 e (omega arith)
+      ∙ ap₂ both (zeros-number 8 28 e (omega arith))
+      (fits-split (replicate 2 0) (replicate 1 0) 36 e (omega arith)
+      ∙ ap₂ both (zeros-number 2 36 e (omega arith)) (zeros-number 1 38 e (omega arith)))
+
+pub unused-tests : (e : List ℕ) → length e ≡ 40
+    → fits UNUSED e
+    ≡ both (eqb (number 8 0 e) 0)
+    (both (eqb (number 8 8 e) 0) (both (eqb (number 8 16 e) 0) (both (eqb (number 8 24 e) 0) (eqb (number 8 32 e) 0))))
+unfolding field
+unused-tests e n =
+    ap (fits UNUSED) (sym (take_all 40 e (omega arith)))
+    ∙ fits-split (replicate 8 0) (replicate 32 0) 0 e (omega arith)
+    ∙ ap₂ both (zeros-number 8 0 e (omega arith))
+    (fits-split (replicate 8 0) (replicate 24 0) 8 e (omega arith)
+    ∙ ap₂ both (zeros-number 8 8 e (omega arith))
+    (fits-split (replicate 8 0) (replicate 16 0) 16 e (omega arith)
+    ∙ ap₂ both (zeros-number 8 16 e (omega arith))
+    (fits-split (replicate 8 0) (replicate 8 0) 24 e (omega arith)
+    ∙ ap₂ both (zeros-number 8 24 e (omega arith)) (zeros-number 8 32 e (omega arith)))))

@@ -65,14 +65,21 @@ fn is_pack(e: &[u8; JUDGED]) -> bool
 fn no_pack(e: &[u8; JUDGED]) -> bool
     ensures { result ≡ fits NOPACK (field 11 28 e.now) }
 {
-    e[28..].starts_with(&[0; 11])
+    le::read::<8>(e, 28) == 0 && le::read::<2>(e, 36) == 0 && e[38] == 0
 }
 
 // Whether any bytes at all are an unused entry: 40 zeros.
 pub fn is_unused(e: &[u8]) -> bool
     ensures { result ≡ fits UNUSED e.now }
 {
-    e == [0; SIZE].as_slice()
+    if e.len() != SIZE {
+        return false;
+    }
+    le::read::<8>(e, 0) == 0
+        && le::read::<8>(e, 8) == 0
+        && le::read::<8>(e, 16) == 0
+        && le::read::<8>(e, 24) == 0
+        && le::read::<8>(e, 32) == 0
 }
 
 // The rules of a used entry, of any bytes at all: the first 39 are judged, and fewer are no entry.
