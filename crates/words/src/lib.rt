@@ -1,7 +1,7 @@
 // How an answer is told to a C caller: a number, and in lent words what goes with it.
 #![tactic(auto)]
 
-ghost use Rattle.std.specs.Prelude.{◌≡◌, length, eqb};
+ghost use Rattle.std.specs.Prelude.{◌≡◌, length, replicate, eqb};
 ghost use Rattle.std.proofs.lemmas.List.Edits.{sets};
 ghost use Rattle.le.specs.Choice.{pick};
 ghost use Rattle.chunk.specs.Refusals.{number_of};
@@ -20,6 +20,17 @@ pub fn answer(number: u32, values: &[u64], words: &mut [u64]) -> u32
         return u32::from(Refusal::ShortOutput);
     }
     words[..values.len()].copy_from_slice(values);
+    number
+}
+
+// The same of an answer whose values are n zeros.
+pub fn zeros(number: u32, n: usize, words: &mut [u64]) -> u32
+    ensures { Answers n number (sets words.old 0 (replicate n 0)) words.old result words.new }
+{
+    if words.len() < n {
+        return u32::from(Refusal::ShortOutput);
+    }
+    words[..n].fill(0);
     number
 }
 
@@ -59,7 +70,7 @@ pub fn lend<F: FnOnce(&mut [u8]) -> Result<u64, Refusal>>(
 
 // The bytes of the output that a writer is lent: none where there is no word to count them in, so that it gives 15.
 #[tactic(auto, unfolding(le::specs::Choice::pick))]
-fn room(out: usize, words: usize) -> usize
+pub fn room(out: usize, words: usize) -> usize
     ensures { result ≡ pick (eqb words 0) 0 out }
 {
     if words == 0 { 0 } else { out }
