@@ -26,7 +26,7 @@ abbrev pub sought : List ℕ → ℕ → ℕ → Answer TrueSize
 sought s count name = entry_size 0 name (entries_in count (drop (20 + LEAST) s))
 
 -- what the entries from a position on say
-searched : (s : List ℕ) (count name i : ℕ) → NoneBelow s name i
+pub searched : (s : List ℕ) (count name i : ℕ) → NoneBelow s name i
     → entry_size i name (entries_in (count - i) (drop (entry_place i) s)) ≡ sought s count name
 searched s count name zero b = simp unary_clauses refl
 searched s count name (suc i) b =
@@ -34,6 +34,18 @@ searched s count name (suc i) b =
     let e : i + 1 ≡ suc i = omega arith in
     let f : entry_place i + ENTRY ≡ entry_place (suc i) = omega arith in
     sym (rw (e, f) at later) ∙ searched s count name i (record { none = λ j h. b.none j (omega arith) })
+
+-- the moves: the start, an entry of another name, an entry of the name, and no entry left
+pub search-start : (s : List ℕ) (name : ℕ) → NoneBelow s name 0
+search-start s name = record { none = λ j h. absurd (omega arith) }
+
+-- an entry of another name, or none
+pub search-next : {s : List ℕ} {name i : ℕ} → NoneBelow s name i → (entry_name s i ≡ name → ⊥) → NoneBelow s name (i + 1)
+search-next {s} {name} {i} b n = record { none = λ j l. neither j l (ltb j i) refl }
+  where
+    neither : (j : ℕ) → j < i + 1 → (c : Bool) → ltb j i ≡ c → entry_name s j ≡ name → ⊥
+    neither j k true l q = b.none j (ltb-true _ _ l) q
+    neither j k false l q = n (let w : i ≡ j = omega (arith, k, ltb-false j i l) in ap (entry_name s) w ∙ q)
 
 module _ {s : List ℕ} {name i : ℕ} (count : ℕ) (b : NoneBelow s name i) where
   -- the first entry of the name
@@ -63,15 +75,10 @@ search-last {s} {name} {i} count b t e h = go (eqb (entry_name s i) name) refl
     more : i < count
     more = search-more count b t e
 
-    neither : (entry_name s i ≡ name → ⊥) → (j : ℕ) → j < i + 1 → (c : Bool) → ltb j i ≡ c → entry_name s j ≡ name → ⊥
-    neither n j k true l q = b.none j (ltb-true _ _ l) q
-    neither n j k false l q = n (let w : i ≡ j = omega (arith, k, ltb-false j i l) in ap (entry_name s) w ∙ q)
-
     go : (c : Bool) → eqb (entry_name s i) name ≡ c → t ≡ size_at i (number 8 (entry_place i + 4) s)
     go true k = given-inj _ _ (sym e ∙ search-here count b more (eqb-true _ _ k))
     go false k =
-        let none : NoneBelow s name (i + 1) = record { none = λ j l. neither (eqb-false _ _ k) j l (ltb j i) refl } in
-        absurd (refused-given UnknownSize t (sym (search-none {i = i + 1} count none h) ∙ e))
+        absurd (refused-given UnknownSize t (sym (search-none {i = i + 1} count (search-next b (eqb-false _ _ k)) h) ∙ e))
 
 -- what stands behind the entry of the name says nothing
 pub more-entries : (p name count n : ℕ) (s : List ℕ) (t : TrueSize) → count ≤ n

@@ -3,19 +3,20 @@
 -- Assumes nothing.
 use mathlib.Core.Path.{◌≡◌, refl, sym, ◌∙◌, ap}
 use mathlib.Core.Bool.{Bool, true, false, not, ◌&&◌}
-use mathlib.Core.List.{List}
-use Prim.Native.Nat.{ℕ}
+use mathlib.Core.List.{List, [], ◌∷◌}
+use Prim.Native.Nat.{ℕ, ◌+◌}
 use native.Mathlib.Omega.{arith}
 use lib.Dec.{eqb}
 use borrow.Author.Tests.{eq-eqb, ne_eqb, eqb-true, not-true}
 use Rattle.le.specs.Choice.{pick}
 use Rattle.chunk.specs.declared.TrueSize.{TrueSize}
+use Rattle.chunk.specs.declared.Refusal.{Refusal}
 use Rattle.chunk.specs.declared.Refusal.TheVariants.{BadDs64, UnknownSize}
-use Rattle.chunk.specs.Refusals.{Err, Ok}
+use Rattle.chunk.specs.Refusals.{Answer, Err, Ok}
 use Rattle.chunk.specs.Names.{DS64, DATA}
 use Rattle.chunk.specs.Fields.{ONES}
 use Rattle.chunk.specs.Walks.{field_size}
-use Rattle.chunk.proofs.Checks.{given-inj, refused-given, true-false, check-given, pick_true, pick-false}
+use Rattle.chunk.proofs.Checks.{given-inj, refused-given, true-false, check-given, pick_true, pick-false, picked}
 use Rattle.form.specs.declared.Form.{Form}
 use Rattle.form.specs.declared.Form.TheVariants.{Riff, Rf64, Bw64}
 use Rattle.form.specs.declared.Ds64.{Ds64}
@@ -108,6 +109,28 @@ known-data d ks name e = pick_true _ _ _ (eq-eqb name DATA e)
 pub known-other : (d : Ds64) (ks : List Ds64Entry) (name : ℕ) → (name ≡ DATA → ⊥) → known_size d ks name ≡ entry_size 0 name ks
 unfolding known_size
 known-other d ks name n = pick-false _ _ _ (ne_eqb name DATA n)
+
+-- where no size is known, that is 7
+abbrev Only7 : Answer TrueSize → Type 0
+Only7 x = (r : Refusal) → x ≡ Err r → x ≡ Err UnknownSize
+
+given-only : (t : TrueSize) → Only7 (Ok t)
+given-only t r e = absurd (refused-given r t (sym e))
+
+entry-only : (p name : ℕ) (ks : List Ds64Entry) → Only7 (entry_size p name ks)
+unfolding entry_size
+entry-only p name [] = λ _ _. refl
+entry-only p name (k ∷ ks) = picked Only7 (eqb k.name name) _ _ (λ _. given-only _) λ _. entry-only (p + 1) name ks
+
+known_only : (d : Ds64) (ks : List Ds64Entry) (name : ℕ) → Only7 (known_size d ks name)
+unfolding known_size
+known_only d ks name = picked Only7 (eqb name DATA) _ _ (λ _. given-only _) λ _. entry-only 0 name ks
+
+pub ones-only : (f : Form) (d : Ds64) (ks : List Ds64Entry) (name : ℕ) → Only7 (ones_size f d ks name)
+unfolding ones_size
+ones-only Riff d ks name = λ _ _. refl
+ones-only Rf64 d ks name = known_only d ks name
+ones-only Bw64 d ks name = known_only d ks name
 
 -- ---- which sizes are known
 

@@ -53,7 +53,7 @@ use Rattle.upgrade.proofs.Outcomes.{reserved-true, upgrade_refused, upgrade-wide
 
 -- ---- the stores
 
-ds64-made : (d : Ds64) (s : List ℕ)
+pub ds64-made : (d : Ds64) (s : List ℕ)
     → patched (ds64_stores d) s
     ≡ stored 4 12 DS64 (stored 4 44 d.count (stored 8 36 d.third (stored 8 28 d.data_size (stored 8 20 d.form_size s))))
 unfolding ds64_stores patched patch
@@ -107,7 +107,7 @@ module _ (s : List ℕ) (a : Scan) (e : scan s ≡ Ok a) where
   whole-size : length s - 8 ≡ form_size a.head (number 4 4 s)
   whole-size = let o = (scan-scanned s a e).listed.opened in omega (arith, o.whole)
 
-  stores-same : (t : Target) → stores (changes_of t (accepted_of s a) s) ≡ patches t a s
+  pub stores-same : (t : Target) → stores (changes_of t (accepted_of s a) s) ≡ patches t a s
   unfolding stores changes_of patches ds64_stores field_stores accepted_of payload_of
   stores-same t = rw (whole-size, fact-same t, third-same t)
 
@@ -190,7 +190,7 @@ module _ (s : List ℕ) (k : Accepted) (w : Knows s k) where
   pub known-long : 8 ≤ length s
   known-long = let o = (scan-scanned s a w.is).listed.opened in omega (arith, o.long)
 
-  head-known : k.head ≡ a.head
+  pub head-known : k.head ≡ a.head
   unfolding accepted_of
   head-known = ap (λ (x : Accepted). x.head) w.known
 
@@ -210,7 +210,7 @@ module _ (s : List ℕ) (k : Accepted) (w : Knows s k) where
     unfolding accepted_of place_of is_wide
     first-is = ap (λ (x : Accepted). x.first) w.known ∙ ap (λ (x : Form). header_of (place_of x s) s) riff
 
-    reserved-is : reserved a.rows ≡ (eqb k.first.name JUNK && leb LEAST k.first.field)
+    pub reserved-is : reserved a.rows ≡ (eqb k.first.name JUNK && leb LEAST k.first.field)
     unfolding reserved header_of
     reserved-is = let f = first-row s a w.is riff in ap reserved f.rows ∙ rw (f.named, f.sized, first-is)
 
@@ -221,7 +221,7 @@ module _ (s : List ℕ) (k : Accepted) (w : Knows s k) where
         P : Option Reserve → Type 0
         P x = x ≡ Some r → reserved a.rows ≡ true
 
-    reserve-none : reserve_as k.first ≡ None → reserved a.rows ≡ false
+    pub reserve-none : reserve_as k.first ≡ None → reserved a.rows ≡ false
     unfolding reserve_as
     reserve-none = picked P (eqb k.first.name JUNK && leb LEAST k.first.field) _ _ (λ b e. cc) (λ b _. reserved-is ∙ b)
       where

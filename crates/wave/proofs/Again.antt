@@ -2,7 +2,8 @@
 -- end; then the invariants of the loop that stores rows and of the one that compares them.
 use mathlib.Core.Path.{◌≡◌, refl, sym, ap, ◌∙◌, subst}
 use mathlib.Core.Bool.{true, false, not}
-use mathlib.Core.List.{List, [], ◌∷◌}
+use mathlib.Core.List.Memᴰ
+use mathlib.Core.List.{List, [], ◌∷◌, map-id, Memᴰ}
 use Prim.Native.Nat.{ℕ, ◌+◌, ◌-◌, ◌%◌, ◌≤◌, ◌<◌}
 use native.Mathlib.Omega.{arith}
 use lib.ListN.{length}
@@ -16,10 +17,10 @@ use Rattle.chunk.specs.declared.Refusal.TheVariants.{BadDs64}
 use Rattle.chunk.specs.Refusals.{Ok}
 use Rattle.chunk.specs.Fields.{ONES}
 use Rattle.chunk.specs.Tables.{LIMIT}
-use Rattle.chunk.specs.Walks.{Rule, entry_of, past, field_size}
+use Rattle.chunk.specs.Walks.{Rule, entry_of, past, walk, field_size, own_size}
 use Rattle.chunk.specs.Code.{HeaderAt}
 use Rattle.chunk.proofs.Checks.{given-inj, check-given, pick_true, true-false}
-use Rattle.chunk.proofs.Laid.{row-size, Laid, next, row_fits, walk-laid}
+use Rattle.chunk.proofs.Laid.{row-size, Laid, next, row_fits, walk-laid, laid-walk, Lies, laid-lies, Shown, relaid-as, own-given}
 use Rattle.form.specs.declared.Form.{Form}
 use Rattle.form.specs.declared.Form.TheVariants.{Riff, Rf64, Bw64}
 use Rattle.form.specs.declared.Head.{Head}
@@ -147,3 +148,30 @@ module _ (h : Head) (s : List ℕ) (place : ℕ) (e : Entry) (a : EntryAt (rule 
   -- what is made of its header and its size is the chunk
   pub entry-made : (size : TrueSize) (y : Entry) → size ≡ row-size e → y ≡ entry_of place x.name size → EntryAt (rule h s) s place y
   entry-made size y z p = subst (EntryAt (rule h s) s place) (sym (p ∙ λ i. entry_of (sym a.stands i) ((k.name ∙ sym a.named) i) (z i))) a
+
+-- ---- in RIFF every field is the size
+
+-- so the 32-bit walk is the scan's walk
+pub riff-headers : (h : Head) (s : List ℕ) → is_wide h.form ≡ false → (headers h s).end ≡ Ok tt
+    → walk own_size s LIMIT 12 ≡ headers h s
+unfolding headers is_wide
+riff-headers h s w e =
+    let l = walk-laid (true_size h (entries_of h s)) s LIMIT 12 e in
+    laid-walk LIMIT (same l.laid (λ x m. own x (laid-lies l.laid m))) l.few
+    ∙ sym (laid-walk LIMIT l.laid l.few)
+  where
+    riff : (f : Form) → is_wide f ≡ false → f ≡ Riff
+    riff Riff k = refl
+    riff Rf64 k = absurd (true-false true refl k)
+    riff Bw64 k = absurd (true-false true refl k)
+
+    same : {rows : List Entry} → Laid (true_size h (entries_of h s)) s 12 rows → ((x : Entry) → Memᴰ x rows → Shown own_size s x) → Laid own_size s 12 rows
+    same {rows} l shown = subst (Laid own_size s 12) (map-id rows) (relaid-as (λ (x : Entry). x) own_size s (λ x. (refl, refl)) refl shown l)
+
+    own : (x : Entry) → Lies (true_size h (entries_of h s)) s 12 x → Shown own_size s x
+    own x y =
+        let at = x.place - 8 in
+        let field = number 4 (x.place - 4) s in
+        let k = riff-own h (entries_of h s) at x.name field (row-size x) y.sized (riff h.form w) in
+        let t = own_is h (entries_of h s) at x.name field (row-size x) y.sized k in
+        record { named = y.named; sized = own-given at x.name field k ∙ ap Ok (sym t) }
