@@ -9,7 +9,9 @@ use lib.ListN.{length, set, take, drop, get_or, get_or-append}
 use lib.Dec.{eqb, ltb}
 use borrow.Author.Tests.{eq-eqb, eqb-true, ltb-true, ltb-false}
 use Rattle.le.specs.Choice.{pick}
-use Rattle.chunk.specs.Tables.{begins}
+use Rattle.chunk.specs.declared.Entry.{Entry}
+use Rattle.chunk.specs.Sources.{source_number}
+use Rattle.chunk.specs.Tables.{begins, row_words}
 use Rattle.chunk.proofs.Checks.{pick_true, true-false}
 
 -- ---- what the test tells
@@ -99,3 +101,33 @@ pointwise-begins (x ∷ xs) (y ∷ w) h = go (pointwise-begins xs w (omega arith
         → b && pointwise eqb (take (length xs) w) xs ≡ pick b (begins xs w) false
     go below true = below
     go below false = refl
+
+-- a row, word by word, as the code compares it
+pub row-begins : (e : Entry) (w : List ℕ) (at : ℕ) → at + 4 ≤ length w
+    → begins (row_words e) (drop at w)
+    ≡ pick (eqb (get_or w at 0) e.name)
+    (pick (eqb (get_or w (at + 1) 0) e.place)
+    (pick (eqb (get_or w (at + 2) 0) e.size) (eqb (get_or w (at + 3) 0) (source_number e.source)) false)
+    false)
+    false
+unfolding row_words begins pick
+row-begins e w at h =
+    let two : at + 1 + 1 ≡ at + 2 = omega arith in
+    let three : at + 2 + 1 ≡ at + 3 = omega arith in
+    let name : Bool = eqb (get_or w at 0) e.name in
+    let place : Bool = eqb (get_or w (at + 1) 0) e.place in
+    let size : Bool = eqb (get_or w (at + 2) 0) e.size in
+    let source : Bool = eqb (get_or w (at + 3) 0) (source_number e.source) in
+    let last : List ℕ = source_number e.source ∷ [] in
+    begins-at e.name (e.place ∷ e.size ∷ last) w at (omega arith)
+    ∙ ap (λ (b : Bool). pick name b false)
+    (begins-at e.place (e.size ∷ last) w (at + 1) (omega arith)
+    ∙ ap (λ (k : ℕ). pick place (begins (e.size ∷ last) (drop k w)) false) two
+    ∙ ap (λ (b : Bool). pick place b false)
+    (begins-at e.size last w (at + 2) (omega arith)
+    ∙ ap (λ (k : ℕ). pick size (begins last (drop k w)) false) three
+    ∙ ap (λ (b : Bool). pick size b false) (begins-at (source_number e.source) [] w (at + 3) (omega arith) ∙ only source)))
+  where
+    only : (b : Bool) → pick b true false ≡ b
+    only true = refl
+    only false = refl

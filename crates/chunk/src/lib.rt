@@ -209,7 +209,11 @@ pub fn is_row(words: &[u64], at: usize, e: Entry) -> bool
     requires { at + 4 ≤ length words.now }
     ensures { result ≡ begins (row_words e) (drop at words.now) }
 {
-    &words[at..at + 4] == &e.words()[..]
+    let row = e.words();
+    words[at] == row[0]
+        && words[at + 1] == row[1]
+        && words[at + 2] == row[2]
+        && words[at + 3] == row[3]
 }
 
 // The entry in the row that starts at a word.

@@ -11,7 +11,7 @@ ghost use Rattle.upgrade.specs.ForTheCode.{KeepsDemand3};
 ghost use Rattle.upgrade.specs.Code.{Knows, Inside, reserve_as, third_of, fact_moved, changes_of, stores};
 
 use chunk::{Header, Name, Refusal};
-use form::Ds64;
+use form::{Ds64, Form};
 use wave::judgement::Accepted;
 
 // What a file can be upgraded to: no other target can be named.
@@ -140,8 +140,11 @@ pub fn upgrade(file: &mut [u8], target: Target) -> Result<(), Refusal>
     ensures demand3 { KeepsDemand3 target file.old result file.new }
 {
     let a = wave::judgement::examine(file)?;
-    if a.head.form.is_wide() {
-        return Err(Refusal::Already64);
+    // Kept: an arm for each form, so that each can be got wrong alone (must-fail/bw64_not_18).
+    match a.head.form {
+        Form::Riff => {}
+        Form::Rf64 => return Err(Refusal::Already64),
+        Form::Bw64 => return Err(Refusal::Already64),
     }
     Reserve::of(a.first).ok_or(Refusal::NoReserve)?;
     Changes::of(file, target, a).make(file);

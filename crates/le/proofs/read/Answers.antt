@@ -16,6 +16,6 @@ returns g c =
     let e : c.from_le_bytes.result ≡ number n at s =
     eight-read n at _ s _ (ap length f ∙ field-length n at s c.requires.inside) c.requires.narrow f c.from_le_bytes.ensures in
     record {
-      is = e;
+      is = omega (arith, e);
       below = omega (arith, e, number_bound n at s (λ i. omega (arith, c.type_inv.s i)));
     }

@@ -1,8 +1,11 @@
 -- `upgrade::upgrade` meets its contract: the scan's refusal, 18, 19, or the stores; demand 3 follows.
-use Rattle.std.proofs.Common.{◌≡◌, ℕ, List, sym, ◌∙◌, ap, rules, Ok, Err, Some, None}
+use Rattle.std.proofs.Common.{◌≡◌, ℕ, true, false, List, sym, ◌∙◌, ap, rules, Ok, Err, Some, None}
 use Rattle.le.specs.Number.{Bytes}
 use Rattle.chunk.specs.declared.Refusal.TheVariants.{NoReserve}
 use Rattle.chunk.specs.Refusals.{Answer}
+use Rattle.form.specs.declared.Form.{Form}
+use Rattle.form.specs.declared.Form.TheVariants.{Riff, Rf64, Bw64}
+use Rattle.form.specs.Forms.{is_wide}
 use Rattle.wave.specs.declared.judgement.Accepted.{Accepted}
 use Rattle.wave.specs.Scans.{scan}
 use Rattle.wave.specs.Code.{examined_as}
@@ -29,10 +32,29 @@ known s a e =
     let k = examined-accepted _ _ _ (sym e) in
     record { scanned = k.scan; is = k.is; known = k.known }
 
-pub returns-then-is_wide : goal.returns-then-is_wide
+-- what the arm of each form says
+riff-narrow : (f : Form) → f ≡ Riff → is_wide f ≡ false
+unfolding is_wide
+riff-narrow f e = ap is_wide e
+
+rf64-wide : (f : Form) → f ≡ Rf64 → is_wide f ≡ true
+unfolding is_wide
+rf64-wide f e = ap is_wide e
+
+bw64-wide : (f : Form) → f ≡ Bw64 → is_wide f ≡ true
+unfolding is_wide
+bw64-wide f e = ap is_wide e
+
+pub returns-in-Rf64 : goal.returns-in-Rf64
 unfolding Bytes
-returns-then-is_wide c =
-    let d = done-wide _ _ (known _ _ c.in_ok-a.ensures) _ (sym c.if-is_wide.ensures) in
+returns-in-Rf64 c =
+    let d = done-wide _ _ (known _ _ c.in_ok-a.ensures) _ (rf64-wide _ c.in-Rf64.is) in
+    record { upgrade_done = d; demand3 = keeps _ _ _ _ (λ n. search rules) d }
+
+pub returns-in-Bw64 : goal.returns-in-Bw64
+unfolding Bytes
+returns-in-Bw64 c =
+    let d = done-wide _ _ (known _ _ c.in_ok-a.ensures) _ (bw64-wide _ c.in-Bw64.is) in
     record { upgrade_done = d; demand3 = keeps _ _ _ _ (λ n. search rules) d }
 
 pub returns-in_err-ok_or : goal.returns-in_err-ok_or
@@ -44,7 +66,7 @@ returns-in_err-ok_or c =
     rw none at c.in_err-ok_or.ensures.value in
     let h : c.from_residual-in_err-ok_or.result ≡ Err NoReserve = cc in
     let d : UpgradeDone c.args.target c.args.file.now c.from_residual-in_err-ok_or.result c.args.file.now =
-    rw h (done-unreserved _ _ (known _ _ c.in_ok-a.ensures) (sym c.if-is_wide.ensures) _ (sym c.of.ensures ∙ none)) in
+    rw h (done-unreserved _ _ (known _ _ c.in_ok-a.ensures) (riff-narrow _ c.in-Riff.is) _ (sym c.of.ensures ∙ none)) in
     record { upgrade_done = d; demand3 = keeps _ _ _ _ (λ n. search rules) d }
 
 pub of-requires-2 : goal.of-requires-2
@@ -53,13 +75,13 @@ of-requires-2 c = known _ _ c.in_ok-a.ensures
 pub make-requires : goal.make-requires
 make-requires c =
     let some : c.of.result ≡ Some c.in_ok-ok_or.field-0 = c.in_ok-ok_or.ensures.ok_part in
-    rw c.of-2.ensures (inside _ _ (known _ _ c.in_ok-a.ensures) (sym c.if-is_wide.ensures) _ _ (sym c.of.ensures ∙ some))
+    rw c.of-2.ensures (inside _ _ (known _ _ c.in_ok-a.ensures) (riff-narrow _ c.in-Riff.is) _ _ (sym c.of.ensures ∙ some))
 
 pub returns : goal.returns
 unfolding Bytes
 returns c =
     let some : c.of.result ≡ Some c.in_ok-ok_or.field-0 = c.in_ok-ok_or.ensures.ok_part in
     let d =
-    done-stored _ _ (known _ _ c.in_ok-a.ensures) (sym c.if-is_wide.ensures) _ _ (sym c.of.ensures ∙ some) _
+    done-stored _ _ (known _ _ c.in_ok-a.ensures) (riff-narrow _ c.in-Riff.is) _ _ (sym c.of.ensures ∙ some) _
     (c.make.ensures ∙ ap (λ (w : Changes). patched (stores w) c.args.file.now) c.of-2.ensures) in
     record { upgrade_done = d; demand3 = keeps _ _ _ _ (λ n. search rules) d }
