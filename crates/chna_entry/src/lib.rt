@@ -62,6 +62,7 @@ fn is_pack(e: &[u8; JUDGED]) -> bool
 }
 
 // Eleven zeros where the pack reference is.
+// Kept: numbers, here and in is_unused, since the library's comparison of slices is a call for each entry (docs/DECISIONS.md).
 fn no_pack(e: &[u8; JUDGED]) -> bool
     ensures { result ≡ fits NOPACK (field 11 28 e.now) }
 {

@@ -205,6 +205,7 @@ pub fn put_row(words: &mut [u64], at: usize, e: Entry)
 }
 
 // Whether the row that starts at a word is an entry's, word for word.
+// Kept: a test for each word, so that each can be got wrong alone (must-fail/mark_below_passed).
 pub fn is_row(words: &[u64], at: usize, e: Entry) -> bool
     requires { at + 4 ≤ length words.now }
     ensures { result ≡ begins (row_words e) (drop at words.now) }

@@ -61,4 +61,5 @@ pub returns-in-Err : goal.returns-in-Err
 returns-in-Err c =
     let f : Sought _ _ _ c.requires = all c.requires c.if-name-eq-DATA.false in
     let none = rw c.in-Err.is at c.first_size.ensures.none in
-    record { is = c.requires.is ∙ ap Ok (search-last _ none _ f.is f.few ∙ sym c.size_at.ensures) }
+    let e = search-last _ none _ f.is f.few in
+    record { is = c.requires.is ∙ grind (arith, e, c.size_at.ensures) }
