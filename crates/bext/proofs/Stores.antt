@@ -5,8 +5,8 @@ use mathlib.Core.List.{List, [], ◌∷◌, ◌++◌, append-nil}
 use Prim.Native.Nat.{ℕ, suc, ◌+◌, ◌-◌, ◌≤◌}
 use native.Mathlib.Omega.{arith}
 use lib.ListN.{length, take, drop, replicate, length-append, length-replicate, length-drop}
-use lib.Seq.{sets, length-sets, length-take-le}
-use Rattle.std.proofs.lemmas.List.{drop-replicate}
+use lib.Seq.{sets, length-sets, take_at, drop_at, take-length, length-take-le}
+use Rattle.std.proofs.lemmas.List.{drop_all, drop-replicate}
 use lib.Dec.{eqb-suc-zero}
 use Rattle.le.specs.Number.{bytes}
 use Rattle.le.proofs.Laws.{bytes-length, part-set}
@@ -93,6 +93,28 @@ module _ (w : Whole) (fit : Fitting w) where
   laid-length = omega (arith, length-append (front8 w) w.history, length8)
 
 -- ---- how the parts are put
+
+over : (t place z : List ℕ) → length t ≤ length place
+    → z ≡ replicate (length (take (length (t ++ drop (length t) place) - length t) (drop (length t) (t ++ drop (length t) place)))) 0
+    → take (length t) (t ++ drop (length t) place)
+    ++ (z ++ drop (length (t ++ drop (length t) place) - length t) (drop (length t) (t ++ drop (length t) place)))
+    ≡ padded (length place) t
+unfolding padded
+over t place z h f =
+    let b : List ℕ = drop (length t) place in
+    let size : length (t ++ b) - length t ≡ length b = omega (arith, length-append t b) in
+    let left : drop (length t) (t ++ b) ≡ b = drop_at t b (length t) refl in
+    let zeros = rw (size, left, take-length b) at f in
+    let none : drop (length b) b ≡ [] = drop_all (length b) b (omega arith) in
+    rw (take_at t b (length t) refl, size, left, none, zeros, append-nil (replicate {A = ℕ} (length b) 0), length-drop (length t) place)
+
+-- a text over the start of its place, and zeros over what is left of it
+pub text-then-zeros : (t place x z : List ℕ) → length t ≤ length place → x ≡ t
+    → z ≡ replicate (length (take (length (x ++ drop (length t) place) - length t) (drop (length t) (x ++ drop (length t) place)))) 0
+    → take (length t) (x ++ drop (length t) place)
+    ++ (z ++ drop (length (x ++ drop (length t) place) - length t) (drop (length t) (x ++ drop (length t) place)))
+    ≡ padded (length place) t
+text-then-zeros t place x z h e f = let g = rw e at f in rw e (over t place z h g)
 
 -- a text over the start of zeros
 pub zeros-then-text : (n : ℕ) (t x z : List ℕ) → x ≡ t → z ≡ replicate n 0 → x ++ drop (length t) z ≡ padded n t

@@ -147,6 +147,14 @@ pub zeros-number : (n at : ℕ) (s : List ℕ) → at + n ≤ length s → fits 
 unfolding number
 zeros-number n at s h = zeros-value n (field n at s) (field-length n at s h)
 
+-- bytes that are equal to zeros fit a pattern of zeros
+pub same-zeros : (n : ℕ) (l : List ℕ) → pointwise eqb l (replicate n 0) ≡ fits (replicate n 0) l
+unfolding fits fits_one pick
+same-zeros zero [] = refl
+same-zeros zero (b ∷ l) = refl
+same-zeros (suc n) [] = refl
+same-zeros (suc n) (b ∷ l) = rw (same-zeros n l) (and_both (eqb b 0) (fits (replicate n 0) l))
+
 -- zeros are all that fits a pattern of zeros
 pub zeros-only : (n : ℕ) (l : List ℕ) → fits (replicate n 0) l ≡ true → l ≡ replicate n 0
 unfolding fits fits_one pick
