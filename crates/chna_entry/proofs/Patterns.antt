@@ -123,6 +123,7 @@ either-length ps qs l n e = by (fits ps l) refl e where
   by true f g = fits-length ps l f
   by false f g = fits-length qs l g ∙ sym n
 
+-- no others do
 pub misfits : (ps l : List ℕ) → (length l ≡ length ps → ⊥) → fits ps l ≡ false
 misfits ps l h = by (fits ps l) refl where
   by : (b : Bool) → fits ps l ≡ b → b ≡ false
@@ -132,9 +133,7 @@ misfits ps l h = by (fits ps l) refl where
 -- bytes fit a pattern of zeros where their number is 0, as the code asks
 zero-more : (b v : ℕ) → both (eqb b 0) (eqb v 0) ≡ eqb (b + 256 * v) 0
 unfolding pick
-zero-more zero zero = refl
-zero-more zero (suc v) = grind (arith, nat_tests)
-zero-more (suc b) v = grind (arith, nat_tests)
+zero-more b v = grind (arith, nat_tests)
 
 zeros-value : (n : ℕ) (l : List ℕ) → length l ≡ n → fits (replicate n 0) l ≡ eqb (value l) 0
 unfolding fits fits_one pick value

@@ -64,7 +64,7 @@ pub fn bext_parts(payload: &[u8], words: &mut [u64]) -> u32
     ensures { PartsOf payload.now words.old result words.new }
 {
     if payload.len() < Bext::HISTORY {
-        return words::answer(0, &[0; 14], words);
+        return words::zeros(0, 14, words);
     }
     let parts = Parts::of(payload);
     let values = [
@@ -110,7 +110,7 @@ pub fn chna_entry(payload: &[u8], i: usize, words: &mut [u64]) -> u32
     ensures { EntryOf i payload.now words.old result words.new }
 {
     let Some(entry) = chna::entry(payload, i) else {
-        return words::answer(0, &[0; 5], words);
+        return words::zeros(0, 5, words);
     };
     let at = (4 + i * Chna::ENTRY) as u64;
     words::answer(0, &[1, entry.index, at + 2, at + 14, at + 28], words)

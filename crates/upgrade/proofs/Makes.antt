@@ -24,7 +24,6 @@ use Rattle.chunk.proofs.Laid.{Laid, done, next, laid-lies}
 use Rattle.chunk.proofs.Finds.{found}
 use Rattle.form.specs.declared.Ds64.{Ds64}
 use Rattle.form.specs.declared.Form.{Form}
-use Rattle.form.specs.declared.Form.TheVariants as form
 use Rattle.form.specs.declared.Form.TheVariants.{Riff}
 use Rattle.form.specs.declared.Head.{Head}
 use Rattle.form.specs.Forms.{is_wide, form_size, LEAST}
@@ -38,6 +37,7 @@ use Rattle.wave.specs.declared.judgement.Accepted.{Accepted}
 use Rattle.wave.specs.Scans.{Scan, scan, payload, judged, whole_blocks}
 use Rattle.listing.specs.Code.{payload_of, fact_in}
 use Rattle.wave.specs.Code.{accepted_of}
+use Rattle.wave.proofs.Again.{narrow-riff}
 use Rattle.wave.proofs.Judgements.{fact-at}
 use Rattle.wave.proofs.Scanned.{scan-scanned}
 use Rattle.upgrade.specs.declared.Reserve.{Reserve}
@@ -145,12 +145,6 @@ done-refused t s r q = record { verdict = sym (ap verdict_of q); bytes = sym (ap
 
 pub done-scan : (t : Target) (s : List ℕ) (r : Refusal) → scan s ≡ Err r → UpgradeDone t s (Err r) s
 done-scan t s r e = done-refused t s r (upgrade_refused t s r e)
-
-narrow-riff : (f : Form) → is_wide f ≡ false → f ≡ Riff
-unfolding is_wide
-narrow-riff Riff e = refl
-narrow-riff form.Rf64 e = cc
-narrow-riff form.Bw64 e = cc
 
 -- where fact's count is that moves
 moved : (t : Target) (m : Option ℕ) (p : ℕ) → fact_moved t m ≡ Some p → m ≡ Some p

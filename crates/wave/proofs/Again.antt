@@ -2,7 +2,6 @@
 -- end; then the invariants of the loop that stores rows and of the one that compares them.
 use mathlib.Core.Path.{◌≡◌, refl, sym, ap, ◌∙◌, subst}
 use mathlib.Core.Bool.{true, false, not}
-use mathlib.Core.List.Memᴰ
 use mathlib.Core.List.{List, [], ◌∷◌, map-id, Memᴰ}
 use Prim.Native.Nat.{ℕ, ◌+◌, ◌-◌, ◌%◌, ◌≤◌, ◌<◌}
 use native.Mathlib.Omega.{arith}
@@ -122,6 +121,12 @@ again-end {left = x ∷ xs} f h = absurd (omega (arith, f.count))
 
 -- ---- a chunk, from its header
 
+pub narrow-riff : (f : Form) → is_wide f ≡ false → f ≡ Riff
+unfolding is_wide
+narrow-riff Riff w = refl
+narrow-riff Rf64 w = absurd (true-false true refl w)
+narrow-riff Bw64 w = absurd (true-false true refl w)
+
 module _ (h : Head) (s : List ℕ) (place : ℕ) (e : Entry) (a : EntryAt (rule h s) s place e) (x : Header) (k : HeaderAt place s x) where
   -- a field that is not all ones is the size
   pub entry-own : (x.field ≡ ONES → ⊥) → field_size x.field ≡ row-size e
@@ -137,13 +142,7 @@ module _ (h : Head) (s : List ℕ) (place : ℕ) (e : Entry) (a : EntryAt (rule 
 
   -- in RIFF it never is
   pub entry-riff : is_wide h.form ≡ false → x.field ≡ ONES → ⊥
-  unfolding is_wide
-  entry-riff w q = riff-own h (entries_of h s) _ _ _ _ a.sized (riff h.form w) (sym k.field ∙ q)
-    where
-      riff : (f : Form) → is_wide f ≡ false → f ≡ Riff
-      riff Riff p = refl
-      riff Rf64 p = absurd (true-false true refl p)
-      riff Bw64 p = absurd (true-false true refl p)
+  entry-riff w q = riff-own h (entries_of h s) _ _ _ _ a.sized (narrow-riff h.form w) (sym k.field ∙ q)
 
   -- what is made of its header and its size is the chunk
   pub entry-made : (size : TrueSize) (y : Entry) → size ≡ row-size e → y ≡ entry_of place x.name size → EntryAt (rule h s) s place y
@@ -154,17 +153,12 @@ module _ (h : Head) (s : List ℕ) (place : ℕ) (e : Entry) (a : EntryAt (rule 
 -- so the 32-bit walk is the scan's walk
 pub riff-headers : (h : Head) (s : List ℕ) → is_wide h.form ≡ false → (headers h s).end ≡ Ok tt
     → walk own_size s LIMIT 12 ≡ headers h s
-unfolding headers is_wide
+unfolding headers
 riff-headers h s w e =
     let l = walk-laid (true_size h (entries_of h s)) s LIMIT 12 e in
     laid-walk LIMIT (same l.laid (λ x m. own x (laid-lies l.laid m))) l.few
     ∙ sym (laid-walk LIMIT l.laid l.few)
   where
-    riff : (f : Form) → is_wide f ≡ false → f ≡ Riff
-    riff Riff k = refl
-    riff Rf64 k = absurd (true-false true refl k)
-    riff Bw64 k = absurd (true-false true refl k)
-
     same : {rows : List Entry} → Laid (true_size h (entries_of h s)) s 12 rows → ((x : Entry) → Memᴰ x rows → Shown own_size s x) → Laid own_size s 12 rows
     same {rows} l shown = subst (Laid own_size s 12) (map-id rows) (relaid-as (λ (x : Entry). x) own_size s (λ x. (refl, refl)) refl shown l)
 
@@ -172,6 +166,6 @@ riff-headers h s w e =
     own x y =
         let at = x.place - 8 in
         let field = number 4 (x.place - 4) s in
-        let k = riff-own h (entries_of h s) at x.name field (row-size x) y.sized (riff h.form w) in
+        let k = riff-own h (entries_of h s) at x.name field (row-size x) y.sized (narrow-riff h.form w) in
         let t = own_is h (entries_of h s) at x.name field (row-size x) y.sized k in
         record { named = y.named; sized = own-given at x.name field k ∙ ap Ok (sym t) }

@@ -2,14 +2,16 @@
 -- Assumes nothing.
 use mathlib.Core.Path.{◌≡◌, refl, sym, ap, ◌∙◌}
 use mathlib.Core.Bool.{Bool, true, false}
-use mathlib.Core.List.{List}
+use mathlib.Core.List.{List, ◌++◌}
 use Prim.Native.Nat.{ℕ, ◌≤◌, ◌<◌}
-use lib.ListN.{length}
+use lib.ListN.{length, drop}
+use lib.Seq.{sets}
 use lib.Dec.{leb}
 use native.Mathlib.Omega.{arith}
 use borrow.Author.Tests.{le-leb, lt-leb, leb-true}
 use Rattle.le.specs.Choice.{pick}
 use Rattle.chunk.proofs.Checks.{pick_true, pick-false}
+use Rattle.chunk.proofs.Outputs.{puts-front}
 use Rattle.words.specs.Answers.{Answers}
 
 pub short : (least n : ℕ) (new w : List ℕ) → length w < least → Answers least n new w 15 w
@@ -21,6 +23,11 @@ pub answered : (least n : ℕ) (new w w' : List ℕ) (r : ℕ) → least ≤ len
 answered least n new w w' r h p q =
     let e = le-leb least (length w) h in
     record { returns = p ∙ sym (pick_true _ _ _ e); words = q ∙ sym (pick_true _ _ _ e) }
+
+-- values over the start of the words
+pub stored : (v w x : List ℕ) (k n : ℕ) → length v ≡ k → k ≤ length w → x ≡ v → Answers k n (sets w 0 v) w n (x ++ drop k w)
+stored v w x k n l h e =
+    answered k n _ w _ n h refl (ap (λ (y : List ℕ). y ++ drop k w) e ∙ ap (λ (j : ℕ). v ++ drop j w) (sym l) ∙ sym (puts-front w v (rw l h)))
 
 -- an answer by its number and its words under other names
 pub same : (least n m : ℕ) (new old w w' : List ℕ) (r : ℕ) → n ≡ m → new ≡ old → Answers least n new w r w' → Answers least m old w r w'

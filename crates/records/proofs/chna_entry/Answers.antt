@@ -10,7 +10,7 @@ pub returns-in_default : goal.returns-in_default
 returns-in_default c =
     same 5 _ _ _ _ _ _ _ refl
     (ap (sets c.args.words.now 0) (not-used _ _ (sym c.entry.ensures ∙ c.in_default.is)))
-    c.answer.ensures
+    c.zeros.ensures
 
 pub overflow_mul-at : goal.overflow_mul-at
 overflow_mul-at c = omega (arith, used-there c.args.i c.args.payload.now _ (sym c.entry.ensures ∙ c.in-Some.is))
@@ -31,4 +31,4 @@ pub returns : goal.returns
 returns c =
     same 5 _ _ _ _ _ _ _ refl
     (ap (sets c.args.words.now 0) (is-used _ _ _ (sym c.entry.ensures ∙ c.in-Some.is)))
-    c.answer-2.ensures
+    c.answer.ensures

@@ -1,10 +1,8 @@
 -- `upgrade::upgrade` meets its contract: the scan's refusal, 18, 19, or the stores; demand 3 follows.
-use Rattle.std.proofs.Common.{◌≡◌, ℕ, true, false, List, sym, ◌∙◌, ap, rules, Ok, Err, Some, None}
+use Rattle.std.proofs.Common.{◌≡◌, ℕ, List, sym, ◌∙◌, ap, rules, Ok, Err, Some, None}
 use Rattle.le.specs.Number.{Bytes}
 use Rattle.chunk.specs.declared.Refusal.TheVariants.{NoReserve}
 use Rattle.chunk.specs.Refusals.{Answer}
-use Rattle.form.specs.declared.Form.{Form}
-use Rattle.form.specs.declared.Form.TheVariants.{Riff, Rf64, Bw64}
 use Rattle.form.specs.Forms.{is_wide}
 use Rattle.wave.specs.declared.judgement.Accepted.{Accepted}
 use Rattle.wave.specs.Scans.{scan}
@@ -32,33 +30,20 @@ known s a e =
     let k = examined-accepted _ _ _ (sym e) in
     record { scanned = k.scan; is = k.is; known = k.known }
 
--- what the arm of each form says
-riff-narrow : (f : Form) → f ≡ Riff → is_wide f ≡ false
-unfolding is_wide
-riff-narrow f e = ap is_wide e
-
-rf64-wide : (f : Form) → f ≡ Rf64 → is_wide f ≡ true
-unfolding is_wide
-rf64-wide f e = ap is_wide e
-
-bw64-wide : (f : Form) → f ≡ Bw64 → is_wide f ≡ true
-unfolding is_wide
-bw64-wide f e = ap is_wide e
-
 pub returns-in-Rf64 : goal.returns-in-Rf64
-unfolding Bytes
+unfolding Bytes is_wide
 returns-in-Rf64 c =
-    let d = done-wide _ _ (known _ _ c.in_ok-a.ensures) _ (rf64-wide _ c.in-Rf64.is) in
+    let d = done-wide _ _ (known _ _ c.in_ok-a.ensures) _ (ap is_wide c.in-Rf64.is) in
     record { upgrade_done = d; demand3 = keeps _ _ _ _ (λ n. search rules) d }
 
 pub returns-in-Bw64 : goal.returns-in-Bw64
-unfolding Bytes
+unfolding Bytes is_wide
 returns-in-Bw64 c =
-    let d = done-wide _ _ (known _ _ c.in_ok-a.ensures) _ (bw64-wide _ c.in-Bw64.is) in
+    let d = done-wide _ _ (known _ _ c.in_ok-a.ensures) _ (ap is_wide c.in-Bw64.is) in
     record { upgrade_done = d; demand3 = keeps _ _ _ _ (λ n. search rules) d }
 
 pub returns-in_err-ok_or : goal.returns-in_err-ok_or
-unfolding Bytes
+unfolding Bytes is_wide
 returns-in_err-ok_or c =
     let none : c.of.result ≡ None = c.in_err-ok_or.ensures.ok_part in
     let e : c.from_residual-in_err-ok_or.result ≡ Err c.in_err-ok_or.field-0.0 = search rules in
@@ -66,22 +51,23 @@ returns-in_err-ok_or c =
     rw none at c.in_err-ok_or.ensures.value in
     let h : c.from_residual-in_err-ok_or.result ≡ Err NoReserve = cc in
     let d : UpgradeDone c.args.target c.args.file.now c.from_residual-in_err-ok_or.result c.args.file.now =
-    rw h (done-unreserved _ _ (known _ _ c.in_ok-a.ensures) (riff-narrow _ c.in-Riff.is) _ (sym c.of.ensures ∙ none)) in
+    rw h (done-unreserved _ _ (known _ _ c.in_ok-a.ensures) (ap is_wide c.in-Riff.is) _ (sym c.of.ensures ∙ none)) in
     record { upgrade_done = d; demand3 = keeps _ _ _ _ (λ n. search rules) d }
 
 pub of-requires-2 : goal.of-requires-2
 of-requires-2 c = known _ _ c.in_ok-a.ensures
 
 pub make-requires : goal.make-requires
+unfolding is_wide
 make-requires c =
     let some : c.of.result ≡ Some c.in_ok-ok_or.field-0 = c.in_ok-ok_or.ensures.ok_part in
-    rw c.of-2.ensures (inside _ _ (known _ _ c.in_ok-a.ensures) (riff-narrow _ c.in-Riff.is) _ _ (sym c.of.ensures ∙ some))
+    rw c.of-2.ensures (inside _ _ (known _ _ c.in_ok-a.ensures) (ap is_wide c.in-Riff.is) _ _ (sym c.of.ensures ∙ some))
 
 pub returns : goal.returns
-unfolding Bytes
+unfolding Bytes is_wide
 returns c =
     let some : c.of.result ≡ Some c.in_ok-ok_or.field-0 = c.in_ok-ok_or.ensures.ok_part in
     let d =
-    done-stored _ _ (known _ _ c.in_ok-a.ensures) (riff-narrow _ c.in-Riff.is) _ _ (sym c.of.ensures ∙ some) _
+    done-stored _ _ (known _ _ c.in_ok-a.ensures) (ap is_wide c.in-Riff.is) _ _ (sym c.of.ensures ∙ some) _
     (c.make.ensures ∙ ap (λ (w : Changes). patched (stores w) c.args.file.now) c.of-2.ensures) in
     record { upgrade_done = d; demand3 = keeps _ _ _ _ (λ n. search rules) d }
